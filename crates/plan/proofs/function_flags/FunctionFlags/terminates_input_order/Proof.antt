@@ -1,0 +1,23 @@
+use borrow.Author.Needs.{needs}
+use Rattle.plan.proofs.function_flags.FunctionFlags.terminates_input_order.Statement.{
+  statement,
+}
+use Rattle.plan.proofs.function_flags.FunctionFlags.terminates_input_order.Tie as tie
+use Rattle.plan.proofs.function_flags.FunctionFlags.terminates_input_order.Reads as reads
+use Rattle.plan.proofs.function_flags.FunctionFlags.terminates_input_order.Lts as lts
+use Rattle.plan.proofs.function_flags.FunctionFlags.contains.Reads as contains-reads
+
+-- src/function_flags.rt:49:9
+contains-requires : tie.Need-contains-requires
+contains-requires c κs = search needs
+
+-- src/function_flags.rt:50:15
+contains-requires-2 : tie.Need-contains-requires-2
+contains-requires-2 c κs = search needs
+
+-- src/function_flags.rt:46:5
+returns : tie.Need-returns
+returns c = rw (c .contains2 .ensures, c .before .contains .ensures)
+
+pub terminates-input-order-spec : {M : Type 1} → statement M
+terminates-input-order-spec = tie.close (tie.spec contains-requires contains-requires-2 returns)

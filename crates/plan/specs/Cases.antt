@@ -1,0 +1,135 @@
+-- The cases A to J of document 01: a table, one test that computes, and one law that makes of each row an equation.
+use mathlib.Core.Path.{_≡_, refl, ap, ap₂, subst, sym}
+use mathlib.Core.Logic.{inl, inr}
+use Prim.Native.Nat.{ℕ}
+use Prim.Native.String.{String, [] as []ˢ, _∷_ as _∷ˢ_}
+use Prim.Native.Char.{code}
+use mathlib.Core.Bool.{Bool, true, false, _&&_}
+use mathlib.Core.List.{List, [], _∷_, List·Memᴰ, List·Memᴰ·not-nil, List·Memᴰ·cases-cons}
+use lib.Dec.{T, eqb, eqb→eq}
+use Rattle.plan.specs.Lists.{same, all?}
+use Rattle.plan.specs.Sheet.{Outcome, refused, done}
+use Rattle.plan.specs.Finished.{finished}
+use Rattle.plan.specs.Computing.{computing}
+
+-- the bytes of an ASCII text
+unfoldable pub bytes : String → List ℕ
+bytes []ˢ = []
+bytes (c ∷ˢ s) = code c ∷ bytes s
+
+-- the sheet sent, and the finished sheet or the number that comes back
+abbrev pub Row : Type 0
+Row = String × Outcome String
+
+unfoldable pub table : List Row
+table =
+    -- A: a Sort over a Scan, under a Sink that keeps no order: it goes
+    (
+      "E,0,0,1,0\nP,0,0,0,0,0,0,0\nP,5,1,0,0,1,1,0,0,0\nP,2,0,0,0,1,0,0,1\n",
+      done "E,0,0,1,0\nP,0,0,0,0,0,0,0\nP,5,1,0,0,1,1,0,0,0\nP,2,0,0,0,1,0,0,0\nG,2,0,0\nG,1,0,0\nT,1,5,0\n",
+    )
+    -- B: with a slice it stays
+    ∷ (
+      "E,0,0,1,0\nP,0,0,0,0,0,0,0\nP,5,1,1,0,1,1,0,0,0\nP,2,0,0,0,1,0,0,1\n",
+      done "E,0,0,1,0\nP,0,0,0,0,0,0,0\nP,5,1,1,0,1,1,0,0,0\nP,2,0,0,0,1,0,0,1\nG,2,0,0\nG,1,0,1\nT,0,6,2\n",
+    )
+    -- C: and if it maintains no order, its input's order is of no account
+    ∷ (
+      "E,0,0,1,0\nP,0,0,0,0,0,0,0\nP,5,0,1,0,1,1,0,0,0\nP,2,0,0,0,1,0,0,1\n",
+      done "E,0,0,1,0\nP,0,0,0,0,0,0,0\nP,5,0,1,0,1,1,0,0,0\nP,2,0,0,0,1,0,0,1\nG,2,0,0\nG,1,0,0\nT,0,6,2\n",
+    )
+    -- D: an HConcat of nothing has no order; the Sink learns it on the way up
+    ∷ (
+      "P,14,0,0,0,0,0,0\nP,2,1,0,0,1,0,0,0\n",
+      done "P,14,0,0,0,0,0,0\nP,2,0,0,0,1,0,0,0\nG,1,0,0\nT,0,4,0\n",
+    )
+    -- E: a semi Join keeps only its left side's order
+    ∷ (
+      "P,0,0,0,0,0,0,0\nP,0,0,0,0,0,0,0\nP,9,1,3,0,2,0,0,0,1\nP,2,1,0,0,1,0,0,2\n",
+      done "P,0,0,0,0,0,0,0\nP,0,0,0,0,0,0,0\nP,9,1,1,0,2,0,0,0,1\nP,2,1,0,0,1,0,0,2\nG,3,0,1\nG,2,0,1\nG,2,1,0\nT,0,8,0\n",
+    )
+    -- F: a Distinct that keeps the first needs its input's order
+    ∷ (
+      "P,0,0,0,0,0,0,0\nP,8,1,0,0,1,0,0,0\nP,2,0,0,0,1,0,0,1\n",
+      done "P,0,0,0,0,0,0,0\nP,8,0,0,0,1,0,0,0\nP,2,0,0,0,1,0,0,1\nG,2,0,0\nG,1,0,1\nT,0,6,0\n",
+    )
+    -- F, with Any: it does not
+    ∷ (
+      "P,0,0,0,0,0,0,0\nP,8,1,0,2,1,0,0,0\nP,2,0,0,0,1,0,0,1\n",
+      done "P,0,0,0,0,0,0,0\nP,8,0,0,2,1,0,0,0\nP,2,0,0,0,1,0,0,1\nG,2,0,0\nG,1,0,0\nT,0,6,0\n",
+    )
+    -- G: a Select of a Cast of a Column
+    ∷ (
+      "E,0,0,1,0\nE,7,0,1,0,0\nP,0,0,0,0,0,0,0\nP,3,0,0,0,1,1,0,0,1\nP,2,0,0,0,1,0,0,1\n",
+      done "E,0,0,1,0\nE,7,0,1,0,0\nP,0,0,0,0,0,0,0\nP,3,0,0,0,1,1,0,0,1\nP,2,0,0,0,1,0,0,1\nG,2,0,0\nG,1,0,0\nT,0,6,8\n",
+    )
+    -- H: of a Sort of a Column: it becomes the Column
+    ∷ (
+      "E,0,0,1,0\nE,9,0,1,0,0\nP,0,0,0,0,0,0,0\nP,3,0,0,0,1,1,0,0,1\nP,2,0,0,0,1,0,0,1\n",
+      done "E,0,0,1,0\nE,0,0,1,0\nP,0,0,0,0,0,0,0\nP,3,0,0,0,1,1,0,0,1\nP,2,0,0,0,1,0,0,1\nG,2,0,0\nG,1,0,0\nT,0,6,6\n",
+    )
+    -- I: no plan line
+    ∷ ("", refused 6)
+    -- J: a Join keyed by an Explode
+    ∷ (
+      "E,0,0,1,0\nE,8,0,0,0,0\nP,0,0,0,0,0,0,0\nP,0,0,0,0,0,0,0\nP,9,0,0,0,2,1,0,0,1,1\nP,2,0,0,0,1,0,0,2\n",
+      refused 10,
+    )
+    ∷ []
+
+-- in bytes
+unfoldable pub written : Outcome String → Outcome (List ℕ)
+written (refused n) = refused n
+written (done t) = done (bytes t)
+
+unfoldable pub agree : Outcome (List ℕ) → Outcome (List ℕ) → Bool
+agree (refused n) (refused m) = eqb n m
+agree (refused n) (done y) = false
+agree (done x) (refused m) = false
+agree (done x) (done y) = same x y
+
+unfoldable pub right : Row → Bool
+right (sent, back) = agree (finished (bytes sent)) (written back)
+
+all-right : T (all? right table)
+unfolding computing bytes right written agree table
+all-right = tt
+
+-- What a passed test says ---------------------------------------------------------------------------------------------
+
+and-left : (a b : Bool) → T (a && b) → T a
+and-left true b t = tt
+and-left false b t = t
+
+and-right : (a b : Bool) → T (a && b) → T b
+and-right true b t = t
+and-right false b t = absurd t
+
+same→eq : (x y : List ℕ) → T (same x y) → x ≡ y
+unfolding same
+same→eq [] [] t = refl
+same→eq [] (y ∷ ys) t = absurd t
+same→eq (x ∷ xs) [] t = absurd t
+same→eq (x ∷ xs) (y ∷ ys) t =
+    ap₂ (λ (a : ℕ) (l : List ℕ). a ∷ l) (eqb→eq x y (and-left (eqb x y) (same xs ys) t)) (same→eq xs ys (and-right (eqb x y) (same xs ys) t))
+
+agree→eq : (x y : Outcome (List ℕ)) → T (agree x y) → x ≡ y
+unfolding agree
+agree→eq (refused n) (refused m) t = ap refused (eqb→eq n m t)
+agree→eq (refused n) (done y) t = absurd t
+agree→eq (done x) (refused m) t = absurd t
+agree→eq (done x) (done y) t = ap done (same→eq x y t)
+
+of-all : {A : Type 0} (f : A → Bool) (l : List A) → T (all? f l) → (a : A) → List·Memᴰ a l → T (f a)
+unfolding all?
+of-all f [] t a m = absurd (List·Memᴰ·not-nil m)
+of-all f (x ∷ xs) t a m =
+    elim (List·Memᴰ·cases-cons m) [
+      | inl e ↦ subst (λ y. T (f y)) (sym e) (and-left (f x) (all? f xs) t)
+      | inr m′ ↦ of-all f xs (and-right (f x) (all? f xs) t) a m′
+    ]
+
+-- every row of the table
+pub cases : (sent : String) (back : Outcome String) → List·Memᴰ (sent, back) table → finished (bytes sent) ≡ written back
+unfolding right
+cases sent back m = agree→eq (finished (bytes sent)) (written back) (of-all right table all-right (sent, back) m)

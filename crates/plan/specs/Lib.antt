@@ -1,0 +1,15 @@
+pub mod Lists
+pub mod Kinds
+pub mod FunctionFlags
+pub mod FunctionIR
+pub mod Sheet
+pub mod Faults
+pub mod Graph
+pub mod Orders
+pub mod Look
+pub mod Visit
+pub mod Walks
+pub mod Text
+pub mod Finished
+pub mod Computing
+pub mod Cases

@@ -1,0 +1,43 @@
+-- simplify_and_fetch_orderings of mod.rs: the downward and the upward walk.
+use Prim.Native.Nat.{ℕ}
+use mathlib.Core.List.{List, [], _∷_}
+use Rattle.plan.specs.Sheet.{Sheet, Outcome, refused, done, _then_}
+use Rattle.plan.specs.Graph.{graph}
+use Rattle.plan.specs.Visit.{Run, simplify-ir-node-orders}
+
+unfoldable pub walk : List ℕ → Run → Outcome Run
+walk [] r = done r
+walk (n ∷ ns) r = simplify-ir-node-orders n r then λ r′. walk ns r′
+
+unfoldable pub begin : Sheet → Run
+begin sh =
+    record {
+      arena = sh .exprs;
+      steps = sh .steps;
+      edges = graph (sh .steps) .1;
+      back = [];
+      removed = [];
+      visits = 0;
+      looks = 0;
+    }
+
+-- along the visiting list
+unfoldable pub down : Sheet → Outcome Run
+down sh = walk (graph (sh .steps) .0) (begin sh)
+
+-- back over it, but for the sorts removed on the way down
+unfoldable pub up : Run → Outcome Run
+up r = walk (r .back) r
+
+-- update_cache_nodes has nothing to do: each id has one line
+unfoldable pub simplify-and-fetch-orderings : Sheet → Outcome Run
+simplify-and-fetch-orderings sh = down sh then up
+
+-- The visits of a walk, one that is refused included: the step, and the state in which it is visited
+abbrev pub then-all : {A B : Type 0} → Outcome A → (A → List B) → List B
+then-all (refused k) f = []
+then-all (done x) f = f x
+
+unfoldable pub trace : List ℕ → Run → List (ℕ × Run)
+trace [] r = []
+trace (n ∷ ns) r = (n, r) ∷ then-all (simplify-ir-node-orders n r) (λ r′. trace ns r′)

@@ -1,0 +1,9 @@
+// The kinds of a plan's records in the Rust's names, and the methods that the port calls on them.
+pub mod aexpr; // aexpr.rt: AExpr
+pub mod answer; // answer.rt: Answer
+pub mod distinct; // distinct.rt: UniqueKeepStrategy
+pub mod function_flags; // function_flags.rt: FunctionFlags
+pub mod function_ir; // function_ir.rt: FunctionIR
+pub mod ir; // ir.rt: IR
+pub mod join; // join.rt: JoinType, MaintainOrderJoin
+pub mod orders; // orders.rt: ObservableOrders
