@@ -1,6 +1,6 @@
 -- The finished sheet of a sheet of bytes, and the call: its answer, and every byte of the output that is lent to it.
 use Prim.Native.Nat.{ℕ, _+_}
-use mathlib.Core.Bool.{true, false}
+use mathlib.Core.Bool.{Bool, true, false}
 use mathlib.Core.List.{List, [], _∷_, _++_}
 use lib.Dec.{ltb}
 use lib.ListN.{length, drop}
@@ -45,9 +45,12 @@ called output (refused n) = record { answer = Answer.Refused n; output = output 
 called output (done r) =
     record { answer = Answer.Finished (finished-answer r); output = printed r ++ drop (length (printed r)) output }
 
--- the call: an output under 16,384 bytes is refusal 1
+-- 1 --
+abbrev pub too-short : List ℕ → Bool
+too-short output = ltb (length output) 16384
+
 unfoldable pub finish : List ℕ → List ℕ → Called
-finish s output = called output (refuse 1 when ltb (length output) 16384 else run s)
+finish s output = called output (refuse 1 when too-short output else run s)
 
 -- What an answer says, by document 01 ----------------------------------------------------------------------------------------
 

@@ -227,7 +227,7 @@ module _ (e : Expr) (allow : Bool) (field : ObservableOrders) (os : List Observa
   after AExpr.Implode = after-row (if option? then o₀ else ∅) false (λ _. ∅) (not option? || is-empty o₀)
   after AExpr.AggGroups = after-row o₀ false (λ _. o₀ ∪ INDEPENDENT) true
 
--- an Implode over nothing ordered no longer maintains order
+-- an Implode over nothing ordered no longer maintains order: it is replaced by itself, switched off
 abbrev pub loses-order : Expr → List ObservableOrders → Bool
 loses-order e os = same-aexpr (e .kind) AExpr.Implode && yes? (e .option) && is-empty (getD os 0 ∅)
 
@@ -236,7 +236,8 @@ switched-off e =
     record { kind = e .kind; scalar = e .scalar; length-preserving = e .length-preserving; option = 0; children = e .children }
 
 abbrev pub replace-implode : ℕ → Expr → List ObservableOrders → Eos → Eos
-replace-implode p e os s = with-arena (if loses-order e os then set (s .expr-arena) p (switched-off e) else s .expr-arena) s
+replace-implode p e os s =
+    with-arena (if loses-order e os then set (s .expr-arena) p (switched-off (expr-at (s .expr-arena) p)) else s .expr-arena) s
 
 -- the fields of a StructEval have the order of its first child
 abbrev pub enter-struct : Expr → List ObservableOrders → Eos → Eos

@@ -7,7 +7,7 @@ use lib.Dec.{eqb, ltb, leb}
 use lib.ListN.{getD, length, take, drop}
 use Rattle.plan.specs.declared.aexpr.AExpr.{AExpr}
 use Rattle.plan.specs.declared.ir.IR.{IR}
-use Rattle.plan.specs.Kinds.{aexpr, ir, same-ir}
+use Rattle.plan.specs.Kinds.{aexpr, aexpr-number, same-aexpr, ir, ir-number, same-ir}
 use Rattle.plan.specs.Lists.{if_then_else_, sum, empty?, same, yes?}
 
 -- The records ------------------------------------------------------------------------------------------------------------
@@ -156,18 +156,9 @@ step-table =
     ∷ (255, 0, 0, 1, 1, 0, 0, 0)  -- 18 Cache
     ∷ []
 
--- One line ---------------------------------------------------------------------------------------------------------------
+-- What a line may have (4) --------------------------------------------------------------------------------------------------------------
 
 -- an E line's numbers ns: K, S, L, a, then the children
-unfoldable pub expr-fits : List ℕ → Bool
-expr-fits ns =
-    let k = getD ns 0 0 in
-    let a = getD ns 3 0 in
-    let children = length (drop 4 ns) in
-    let (least, most, option) = getD expr-table k (0, 0, 0) in
-    ltb k 25 && leb (getD ns 1 0) 1 && leb (getD ns 2 0) 1 && leb a option && leb least children && leb children most
-    && (not (eqb k 16 && yes? a) || leb 2 children)
-
 unfoldable pub expr-of : List ℕ → Expr
 expr-of ns =
     record {
@@ -178,34 +169,50 @@ expr-of ns =
       children = drop 4 ns;
     }
 
--- a P line's numbers ns: K, a, b, c, n1, n2, n3, then the inputs and the two lists of expressions
-unfoldable pub step-fits : List ℕ → Bool
-step-fits ns =
-    let k = getD ns 0 0 in
-    let b = getD ns 2 0 in
-    let n1 = getD ns 4 0 in
-    let n2 = getD ns 5 0 in
-    let n3 = getD ns 6 0 in
-    let (most-a, most-b, most-c, least-n1, most-n1, least-n2, most-n2, most-n3) = getD step-table k (0, 0, 0, 0, 0, 0, 0, 0) in
-    ltb k 19 && leb (getD ns 1 0) most-a && leb b most-b && leb (getD ns 3 0) most-c
-    && leb least-n1 n1 && leb n1 most-n1 && leb least-n2 n2 && leb n2 most-n2 && leb n3 most-n3
-    && (not (eqb k 2 && eqb b 0) || eqb n2 0)
-    && eqb (length ns) (7 + n1 + n2 + n3)
+unfoldable pub in-expr-table : Expr → Bool
+in-expr-table e =
+    let (least, most, option) = getD expr-table (aexpr-number (e .kind)) (0, 0, 0) in
+    let count = length (e .children) in
+    leb (e .option) option && leb least count && leb count most
+    && (not (same-aexpr (e .kind) AExpr.Over && yes? (e .option)) || leb 2 count)
 
+unfoldable pub expr-fits : List ℕ → Bool
+expr-fits ns = ltb (getD ns 0 0) 25 && leb (getD ns 1 0) 1 && leb (getD ns 2 0) 1 && in-expr-table (expr-of ns)
+
+-- a P line's numbers ns: K, a, b, c, n1, n2, n3, then n1 inputs, n2 expressions, n3 expressions
 unfoldable pub step-of : List ℕ → Step
 step-of ns =
     let n1 = getD ns 4 0 in
     let n2 = getD ns 5 0 in
-    let tail = drop 7 ns in
+    let n3 = getD ns 6 0 in
+    let entries = drop 7 ns in
     record {
       kind = ir (getD ns 0 0);
       a = getD ns 1 0;
       b = getD ns 2 0;
       c = getD ns 3 0;
-      inputs = take n1 tail;
-      exprs = take n2 (drop n1 tail);
-      aggs = drop (n1 + n2) tail;
+      inputs = take n1 entries;
+      exprs = take n2 (drop n1 entries);
+      aggs = take n3 (drop (n1 + n2) entries);
     }
+
+unfoldable pub in-step-table : Step → Bool
+in-step-table s =
+    let (most-a, most-b, most-c, least-n1, most-n1, least-n2, most-n2, most-n3) =
+    getD step-table (ir-number (s .kind)) (0, 0, 0, 0, 0, 0, 0, 0) in
+    let n1 = length (s .inputs) in
+    let n2 = length (s .exprs) in
+    let n3 = length (s .aggs) in
+    leb (s .a) most-a && leb (s .b) most-b && leb (s .c) most-c
+    && leb least-n1 n1 && leb n1 most-n1 && leb least-n2 n2 && leb n2 most-n2 && leb n3 most-n3
+    && (not (same-ir (s .kind) IR.Sink && eqb (s .b) 0) || eqb n2 0)
+
+-- no number is left over or lacking
+unfoldable pub step-fits : List ℕ → Bool
+step-fits ns =
+    ltb (getD ns 0 0) 19 && eqb (length ns) (7 + getD ns 4 0 + getD ns 5 0 + getD ns 6 0) && in-step-table (step-of ns)
+
+-- One line ---------------------------------------------------------------------------------------------------------------
 
 -- E lines and agg entries (the n3 lists of GroupBy): room for the Implodes that GroupBy appends
 unfoldable pub expr-count : Sheet → ℕ
@@ -221,32 +228,34 @@ with-expr e sh = record { exprs = sh .exprs ++ (e ∷ []); steps = sh .steps }
 unfoldable pub with-step : Step → Sheet → Sheet
 with-step s sh = record { exprs = sh .exprs; steps = sh .steps ++ (s ∷ []) }
 
+-- a line of the form: its letter and its numbers, at least 4 of an E line and 7 of a P line
+pub data Line : Type 0 where
+  E : List ℕ → Line
+  P : List ℕ → Line
+
+unfoldable pub lettered : List ℕ → Option (List ℕ) → Option Line
+lettered letter none = none
+lettered letter (some ns) =
+    if same letter (69 ∷ []) && leb 4 (length ns) then some (E ns)
+    else if same letter (80 ∷ []) && leb 7 (length ns) then some (P ns)
+    else none
+
+unfoldable pub line-of : List ℕ → Option Line
+line-of l = let fields = parts 44 l in lettered (getD fields 0 []) (numbers (drop 1 fields))
+
 abbrev pub within-limits : Sheet → Outcome Sheet
 within-limits sh = refuse 5 when over-limits sh else done sh
 
--- an E line comes before every P line
-unfoldable pub read-expr : List ℕ → Sheet → Outcome Sheet
-read-expr ns sh =
-    refuse 3 when ltb (length ns) 4 || not (empty? (sh .steps)) else
+-- 3, 4, 5, in this order; no E line comes after a P line
+unfoldable pub read-line : Option Line → Sheet → Outcome Sheet
+read-line none sh = refused 3
+read-line (some (E ns)) sh =
+    refuse 3 when not (empty? (sh .steps)) else
     refuse 4 when not (expr-fits ns) else
     within-limits (with-expr (expr-of ns) sh)
-
-unfoldable pub read-step : List ℕ → Sheet → Outcome Sheet
-read-step ns sh =
-    refuse 3 when ltb (length ns) 7 else
+read-line (some (P ns)) sh =
     refuse 4 when not (step-fits ns) else
     within-limits (with-step (step-of ns) sh)
-
--- a line's letter and its numbers, if they are numbers
-unfoldable pub read-fields : List ℕ → Option (List ℕ) → Sheet → Outcome Sheet
-read-fields letter none sh = refused 3
-read-fields letter (some ns) sh =
-    if same letter (69 ∷ []) then read-expr ns sh  -- E
-    else if same letter (80 ∷ []) then read-step ns sh  -- P
-    else refused 3
-
-unfoldable pub read-line : List ℕ → Sheet → Outcome Sheet
-read-line l sh = let fs = parts 44 l in read-fields (getD fs 0 []) (numbers (drop 1 fs)) sh
 
 -- All lines --------------------------------------------------------------------------------------------------------------
 
@@ -254,14 +263,22 @@ read-line l sh = let fs = parts 44 l in read-fields (getD fs 0 []) (numbers (dro
 unfoldable pub read-lines : List (List ℕ) → Sheet → Outcome Sheet
 read-lines [] sh = done sh
 read-lines (l ∷ []) sh = if empty? l then done sh else refused 3
-read-lines (l ∷ l′ ∷ ls) sh = read-line l sh then λ sh′. read-lines (l′ ∷ ls) sh′
+read-lines (l ∷ l′ ∷ ls) sh = read-line (line-of l) sh then λ sh′. read-lines (l′ ∷ ls) sh′
 
 abbrev pub no-lines : Sheet
 no-lines = record { exprs = []; steps = [] }
 
+-- 2 --
+abbrev pub too-long : List ℕ → Bool
+too-long s = ltb 16384 (length s)
+
+-- 6 --
+abbrev pub no-plan : Sheet → Bool
+no-plan sh = empty? (sh .steps)
+
 unfoldable pub read : List ℕ → Outcome Sheet
 read s =
-    refuse 2 when ltb 16384 (length s) else
+    refuse 2 when too-long s else
     read-lines (parts 10 s) no-lines then λ sh.
-    refuse 6 when empty? (sh .steps) else
+    refuse 6 when no-plan sh else
     done sh
