@@ -1,0 +1,68 @@
+-- Tests, and tests of every entry of a list.
+use mathlib.Core.Path.{_≡_, refl, sym, subst}
+use mathlib.Core.Logic.{inl, inr, _≢_}
+use Prim.Native.Nat.{ℕ, zero, suc, _+_, _<_}
+use native.Mathlib.Omega.{arith}
+use native.Mathlib.Nat.{not-suc-le-zero}
+use mathlib.Core.Bool.{Bool, true, false, _&&_}
+use mathlib.Core.List.{List, [], _∷_, _++_, List·Memᴰ, List·Memᴰ·not-nil, List·Memᴰ·cases-cons}
+use lib.Dec.{T, eqb, eqb→eq, eqb-refl}
+use lib.ListN.{length, getD}
+use Rattle.plan.specs.Lists.{all?, numbered}
+
+pub and-left : (a b : Bool) → T (a && b) → T a
+and-left true b t = tt
+and-left false b t = t
+
+pub and-right : (a b : Bool) → T (a && b) → T b
+and-right true b t = t
+and-right false b t = absurd t
+
+pub and-both : (a b : Bool) → T a → T b → T (a && b)
+and-both true b t u = u
+and-both false b t u = t
+
+pub T-eq : (a b : Bool) → (T a → T b) → (T b → T a) → a ≡ b
+T-eq true true f g = refl
+T-eq true false f g = absurd (f tt)
+T-eq false true f g = absurd (g tt)
+T-eq false false f g = refl
+
+pub differ : (m n : ℕ) → m ≢ n → eqb m n ≡ false
+differ m n h = T-eq (eqb m n) false (λ t. h (eqb→eq m n t)) (λ t. absurd t)
+
+pub equal : (m n : ℕ) → m ≡ n → T (eqb m n)
+equal m n e = subst (λ x. T (eqb m x)) e (eqb-refl m)
+
+module _ {A : Type 0} (f : A → Bool) where
+  pub all-append : (l : List A) (a : A) → T (all? f l) → T (f a) → T (all? f (l ++ (a ∷ [])))
+  unfolding all?
+  all-append [] a t k = and-both (f a) true k tt
+  all-append (x ∷ l) a t k =
+      and-both (f x) (all? f (l ++ (a ∷ []))) (and-left (f x) (all? f l) t) (all-append l a (and-right (f x) (all? f l) t) k)
+
+  pub all-at : (l : List A) (d : A) → T (all? f l) → (i : ℕ) → i < length l → T (f (getD l i d))
+  unfolding all?
+  all-at [] d t i h = absurd (not-suc-le-zero h)
+  all-at (x ∷ l) d t zero h = and-left (f x) (all? f l) t
+  all-at (x ∷ l) d t (suc i) h = all-at l d (and-right (f x) (all? f l) t) i (omega arith)
+
+  pub of-all : (l : List A) → T (all? f l) → (a : A) → List·Memᴰ a l → T (f a)
+  unfolding all?
+  of-all [] t a m = absurd (List·Memᴰ·not-nil m)
+  of-all (x ∷ xs) t a m =
+      elim (List·Memᴰ·cases-cons m) [
+        | inl e ↦ subst (λ y. T (f y)) (sym e) (and-left (f x) (all? f xs) t)
+        | inr m′ ↦ of-all xs (and-right (f x) (all? f xs) t) a m′
+      ]
+
+-- a test of every numbered entry
+numbered-at : {A : Type 0} (f : ℕ × A → Bool) (k : ℕ) (l : List A) (d : A) → T (all? f (numbered k l)) → (i : ℕ) → i < length l → T (f (k + i, getD l i d))
+unfolding all? numbered
+numbered-at f k [] d t i h = absurd (not-suc-le-zero h)
+numbered-at f k (x ∷ l) d t zero h = subst (λ n. T (f (n, x))) (omega arith) (and-left (f (k, x)) _ t)
+numbered-at f k (x ∷ l) d t (suc i) h =
+    subst (λ n. T (f (n, getD l i d))) (omega arith) (numbered-at f (suc k) l d (and-right (f (k, x)) _ t) i (omega arith))
+
+pub entry-at : {A : Type 0} (f : ℕ × A → Bool) (l : List A) (d : A) → T (all? f (numbered 0 l)) → (i : ℕ) → i < length l → T (f (i, getD l i d))
+entry-at f l d t i h = subst (λ n. T (f (n, getD l i d))) (omega arith) (numbered-at f 0 l d t i h)

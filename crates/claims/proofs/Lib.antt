@@ -1,0 +1,5 @@
+pub mod Outcomes
+pub mod Booleans
+pub mod Taken
+pub mod Walks
+pub mod Visits

@@ -1,0 +1,81 @@
+-- Every accepted sheet is well formed.
+use mathlib.Core.Path.{_≡_, subst}
+use Prim.Native.Nat.{ℕ}
+use native.Mathlib.Omega.{arith}
+use mathlib.Core.Bool.{Bool, _&&_, not}
+use mathlib.Core.Option.{Option, none, some}
+use mathlib.Core.List.{List, [], _∷_}
+use lib.Dec.{T, ltb, leb, eqb}
+use lib.ListN.{length, getD}
+use Rattle.plan.specs.Lists.{all?, sum, empty?}
+use Rattle.plan.specs.Sheet.{Sheet, Outcome, done, Line, E, P, expr-of, step-of, expr-fits, step-fits, in-expr-table, in-step-table, over-limits, with-expr, with-step, within-limits, line-of, read-line, read-lines, no-lines, read, parts, too-long, no-plan, expr-count}
+use Rattle.plan.specs.Faults.{checked, references-right, uses-right, fields-right}
+use Rattle.claims.specs.WellFormed.{Accepted, WellFormed}
+use Rattle.claims.proofs.Outcomes.{same-value, came, both-done, passed, passed-not}
+use Rattle.claims.proofs.Booleans.{and-left, and-right, all-append}
+
+-- what holds after every line
+record Read (sh : Sheet) : Type 0 where
+  exprs : T (all? in-expr-table (sh .exprs))
+  steps : T (all? in-step-table (sh .steps))
+  within : T (not (over-limits sh))
+
+add-expr : (ns : List ℕ) (sh : Sheet) {sh′ : Sheet} → Read sh → T (expr-fits ns) → within-limits (with-expr (expr-of ns) sh) ≡ done sh′ → Read sh′
+unfolding expr-fits with-expr
+add-expr ns sh k t e =
+    let (w, i) = passed (over-limits (with-expr (expr-of ns) sh)) 5 _ e in
+    let fits = and-right (ltb (getD ns 0 0) 25 && leb (getD ns 1 0) 1 && leb (getD ns 2 0) 1) (in-expr-table (expr-of ns)) t in
+    subst Read (same-value i)
+    (record { exprs = all-append in-expr-table (sh .exprs) (expr-of ns) (k .exprs) fits; steps = k .steps; within = w })
+
+add-step : (ns : List ℕ) (sh : Sheet) {sh′ : Sheet} → Read sh → T (step-fits ns) → within-limits (with-step (step-of ns) sh) ≡ done sh′ → Read sh′
+unfolding step-fits with-step
+add-step ns sh k t e =
+    let (w, i) = passed (over-limits (with-step (step-of ns) sh)) 5 _ e in
+    let fits = and-right (ltb (getD ns 0 0) 19 && eqb (length ns) _) (in-step-table (step-of ns)) t in
+    subst Read (same-value i)
+    (record { exprs = k .exprs; steps = all-append in-step-table (sh .steps) (step-of ns) (k .steps) fits; within = w })
+
+one-line : (l : Option Line) (sh : Sheet) {sh′ : Sheet} → Read sh → read-line l sh ≡ done sh′ → Read sh′
+unfolding read-line
+one-line none sh k e = let z : _≡_ {A = ℕ} 0 1 = cc in absurd (omega arith)
+one-line (some (E ns)) sh k e =
+    let (_, e₁) = passed-not (empty? (sh .steps)) 3 _ e in
+    let (t, e₂) = passed-not (expr-fits ns) 4 _ e₁ in
+    add-expr ns sh k t e₂
+one-line (some (P ns)) sh k e = let (t, e₁) = passed-not (step-fits ns) 4 _ e in add-step ns sh k t e₁
+
+all-lines : (ls : List (List ℕ)) (sh : Sheet) {sh′ : Sheet} → Read sh → read-lines ls sh ≡ done sh′ → Read sh′
+unfolding read-lines
+all-lines [] sh k e = subst Read (same-value e) k
+all-lines (l ∷ []) sh k e = subst Read (came (empty? l) sh 3 e) k
+all-lines (l ∷ l′ ∷ ls) sh k e =
+    let (sh₁, first, rest) = both-done (read-line (line-of l) sh) (λ x. read-lines (l′ ∷ ls) x) e in
+    all-lines (l′ ∷ ls) sh₁ (one-line (line-of l) sh k first) rest
+
+nothing-read : Read no-lines
+unfolding all? over-limits expr-count sum
+nothing-read = record { exprs = tt; steps = tt; within = tt }
+
+pub well-formed : (s : List ℕ) (sh : Sheet) → Accepted s sh → WellFormed sh
+unfolding read checked
+well-formed s sh e =
+    let (sh₁, r, c) = both-done (read s) checked e in
+    let (_, r₁) = passed (too-long s) 2 _ r in
+    let (sh₂, lines, r₂) = both-done (read-lines (parts 10 s) no-lines) _ r₁ in
+    let (plan, r₃) = passed (no-plan sh₂) 6 _ r₂ in
+    let same : sh₂ ≡ sh₁ = same-value r₃ in
+    let k = subst Read same (all-lines (parts 10 s) no-lines nothing-read lines) in
+    let (refs, c₁) = passed-not (references-right sh₁) 7 _ c in
+    let (uses, c₂) = passed-not (uses-right sh₁) 8 _ c₁ in
+    let (fields, c₃) = passed-not (fields-right (sh₁ .exprs)) 9 _ c₂ in
+    subst WellFormed (same-value c₃)
+    (record {
+      exprs-in-table = k .exprs;
+      steps-in-table = k .steps;
+      within-limits = k .within;
+      has-plan = subst (λ (x : Sheet). T (not (no-plan x))) same plan;
+      references = refs;
+      uses = uses;
+      fields = fields;
+    })

@@ -1,0 +1,60 @@
+-- A property of a run and of the places that it has still to visit: kept by each visit, it holds along the whole walk.
+use mathlib.Core.Path.{_≡_, refl, sym, subst}
+use mathlib.Core.Logic.{_⊎_, inl, inr}
+use Prim.Native.Nat.{ℕ}
+use mathlib.Core.Bool.{Bool, true, false}
+use mathlib.Core.List.{List, [], _∷_, List·Memᴰ, List·Memᴰ·not-nil, List·Memᴰ·cases-cons}
+use lib.Dec.{eqb}
+use Rattle.plan.specs.Lists.{if_then_else_}
+use Rattle.plan.specs.Sheet.{Outcome, refused, done, _then_}
+use Rattle.plan.specs.Visit.{Run, simplify-ir-node-orders, goes, unlink-node, one-visit, settle, settled, refusal-in}
+use Rattle.plan.specs.Walks.{walk, trace, then-all}
+use Rattle.claims.proofs.Outcomes.{came, both-done}
+
+-- a visit removes the step, or settles it
+pub two-ways : (n : ℕ) (r : Run) {r′ : Run} → simplify-ir-node-orders n r ≡ done r′
+    → ((goes n r ≡ true) × (r′ ≡ unlink-node n (one-visit r))) ⊎ ((goes n r ≡ false) × (r′ ≡ settled n (one-visit r)))
+unfolding simplify-ir-node-orders settle
+two-ways n r {r′} e = by (goes n r) refl e
+  where
+    r₀ : Run
+    r₀ = one-visit r
+
+    by : (b : Bool) → goes n r ≡ b → (if b then done (unlink-node n r₀) else settle n r₀) ≡ done r′
+        → ((goes n r ≡ true) × (r′ ≡ unlink-node n r₀)) ⊎ ((goes n r ≡ false) × (r′ ≡ settled n r₀))
+    by true i e = inl (i, sym (came true (unlink-node n r₀) 0 e))
+    by false i e = inr (i, sym (came (eqb (refusal-in n r₀) 0) (settled n r₀) (refusal-in n r₀) e))
+
+module _ (P : List ℕ → Run → Type 0) (keep : (n : ℕ) (ns : List ℕ) (r r′ : Run) → P (n ∷ ns) r → simplify-ir-node-orders n r ≡ done r′ → P ns r′) where
+  pub walk-keeps : (ns : List ℕ) (r : Run) {r′ : Run} → P ns r → walk ns r ≡ done r′ → P [] r′
+  unfolding walk
+  walk-keeps [] r p e = subst (P []) (came true r 0 e) p
+  walk-keeps (n ∷ ns) r p e =
+      let (r₁, first, rest) = both-done (simplify-ir-node-orders n r) (λ x. walk ns x) e in
+      walk-keeps ns r₁ (keep n ns r r₁ p first) rest
+
+  -- and at each visit, whether or not a later one is refused
+  pub trace-keeps : (ns : List ℕ) (r : Run) → P ns r → (n : ℕ) (v : Run) → List·Memᴰ (n, v) (trace ns r) → (ms : List ℕ) × P (n ∷ ms) v
+  unfolding trace
+  trace-keeps [] r p n v m = absurd (List·Memᴰ·not-nil m)
+  trace-keeps (k ∷ ns) r p n v m =
+      elim (List·Memᴰ·cases-cons m) [
+        | inl i ↦ let at : ℕ × Run → Type 0 = λ (n, v). (ms : List ℕ) × P (n ∷ ms) v in subst at (sym i) (ns, p)
+        | inr m′ ↦ on (simplify-ir-node-orders k r) (λ q e. keep k ns r q p e) (λ q p′ m″. trace-keeps ns q p′ n v m″) m′
+      ]
+    where
+      on : (o : Outcome Run) → ((q : Run) → o ≡ done q → P ns q) → ((q : Run) → P ns q → List·Memᴰ (n, v) (trace ns q) → (ms : List ℕ) × P (n ∷ ms) v)
+          → List·Memᴰ (n, v) (then-all o (λ q. trace ns q)) → (ms : List ℕ) × P (n ∷ ms) v
+      on (refused j) f h m = absurd (List·Memᴰ·not-nil m)
+      on (done q) f h m = h q (f q refl) m
+
+-- at each visit of a walk that comes to its end, with what is left of it
+pub walk-at : (P : List ℕ → Run → Type 0) → ((n : ℕ) (ns : List ℕ) (r r′ : Run) → P (n ∷ ns) r → simplify-ir-node-orders n r ≡ done r′ → P ns r′)
+    → (ns : List ℕ) (r : Run) {r′ : Run} → P ns r → walk ns r ≡ done r′ → (n : ℕ) (v : Run) → List·Memᴰ (n, v) (trace ns r)
+    → (ms : List ℕ) × P (n ∷ ms) v × (walk (n ∷ ms) v ≡ done r′)
+unfolding walk _then_
+walk-at P keep ns r {r′} p e n v m =
+    let (ms, both) = trace-keeps (λ ns q. P ns q × (walk ns q ≡ done r′)) next ns r (p, e) n v m in (ms, both .0, both .1)
+  where
+    next : (n : ℕ) (ns : List ℕ) (q q′ : Run) → P (n ∷ ns) q × (walk (n ∷ ns) q ≡ done r′) → simplify-ir-node-orders n q ≡ done q′ → P ns q′ × (walk ns q′ ≡ done r′)
+    next n ns q q′ (p, e) f = (keep n ns q q′ p f, subst (λ (o : Outcome Run). (o then λ x. walk ns x) ≡ done r′) f e)

@@ -1,0 +1,4 @@
+pub mod WellFormed
+pub mod LooksMade
+pub mod Demand3
+pub mod Limits

@@ -1,0 +1,22 @@
+-- What is known of every sheet that is accepted.
+use mathlib.Core.Path.{_≡_}
+use mathlib.Core.List.{List}
+use mathlib.Core.Bool.{not}
+use Prim.Native.Nat.{ℕ}
+use lib.Dec.{T}
+use Rattle.plan.specs.Lists.{all?}
+use Rattle.plan.specs.Sheet.{Sheet, Outcome, done, _then_, read, in-expr-table, in-step-table, over-limits, no-plan}
+use Rattle.plan.specs.Faults.{checked, references-right, uses-right, fields-right}
+
+-- the bytes s are accepted, as the sheet sh
+abbrev pub Accepted : List ℕ → Sheet → Type 0
+Accepted s sh = (read s then checked) ≡ done sh
+
+pub record WellFormed (sh : Sheet) : Type 0 where
+  pub exprs-in-table : T (all? in-expr-table (sh .exprs))
+  pub steps-in-table : T (all? in-step-table (sh .steps))
+  pub within-limits : T (not (over-limits sh))
+  pub has-plan : T (not (no-plan sh))
+  pub references : T (references-right sh)
+  pub uses : T (uses-right sh)
+  pub fields : T (fields-right (sh .exprs))

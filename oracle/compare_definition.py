@@ -1,0 +1,61 @@
+#!/usr/bin/env python3
+"""Compares the definition itself, as the checker computes it, with the oracle.
+
+    oracle/compare_definition.py FAMILY SEED COUNT
+
+Copies the crate plan to a temporary folder, adds a module of specs/ with a row for each generated sheet (the sheet, and the
+oracle's answer), and has it proved: a row is proved by computing. Prints the count of rows, or the first that is refused.
+The oracle has to be built first (README, 'Comparing with the Rust').
+"""
+import pathlib
+import re
+import shutil
+import subprocess
+import sys
+import tempfile
+
+ROOT = pathlib.Path(__file__).resolve().parent.parent
+BIN = ROOT / "oracle" / "target" / "release"
+MARK = b"---\n"
+HEAD = """use lib.Dec.{T}
+use Rattle.plan.specs.Sheet.{refused, done}
+use Rattle.plan.specs.Cases.{bytes, right, written, agree}
+use Rattle.plan.specs.Computing.{computing}
+"""
+
+
+def text(b):
+    """The bytes as a text of antt's: a character for each."""
+    return '"' + "".join(chr(c) if 32 <= c < 127 and c not in (34, 92) else "\\u{%x}" % c for c in b) + '"'
+
+
+def row(i, sheet, answer):
+    refusal = re.fullmatch(rb"R,(\d+)\n", answer)
+    back = "refused " + refusal[1].decode() if refusal else "done " + text(answer)
+    return f"\nrow{i} : T (right ({text(sheet)}, {back}))\nunfolding computing bytes right written agree\nrow{i} = tt\n"
+
+
+def main():
+    family, seed, count = sys.argv[1:4]
+    batch = subprocess.run([BIN / "gen", family, seed, count], stdout=subprocess.PIPE, check=True).stdout
+    answers = subprocess.run([BIN / "oracle", "--batch"], input=batch, stdout=subprocess.PIPE, check=True).stdout
+    sheets, answers = batch.split(MARK)[:-1], answers.split(MARK)[:-1]
+    assert len(sheets) == len(answers) == int(count)
+    with tempfile.TemporaryDirectory() as folder:
+        plan = pathlib.Path(folder) / "plan"
+        shutil.copytree(ROOT / "crates" / "plan", plan, ignore=shutil.ignore_patterns("must-fail"))
+        (plan / "specs" / "Rows.antt").write_text(HEAD + "".join(map(row, range(len(sheets)), sheets, answers)))
+        with open(plan / "specs" / "Lib.antt", "a") as lib:
+            lib.write("pub mod Rows\n")
+        run = subprocess.run(["rt", "check", plan], stdout=subprocess.PIPE, stderr=subprocess.STDOUT, text=True)
+    bad = re.search(r"`row(\d+)`", run.stdout)
+    if run.returncode != 0:
+        print(run.stdout[-2000:] if not bad else f"row {bad[1]} differs")
+        if bad:
+            sys.stdout.write(sheets[int(bad[1])].decode("latin-1"))
+        sys.exit(1)
+    taken = sum(not a.startswith(b"R,") for a in answers)
+    print(f"{family} {seed}: {count} sheets agree, {taken} of them finished")
+
+
+main()
