@@ -1,5 +1,6 @@
 pub mod Lists
 pub mod Kinds
+pub mod KindNumbers
 pub mod FunctionFlags
 pub mod FunctionIR
 pub mod Sheet
