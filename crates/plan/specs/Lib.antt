@@ -4,6 +4,7 @@ pub mod KindNumbers
 pub mod FunctionFlags
 pub mod FunctionIR
 pub mod Sheet
+pub mod Stored
 pub mod Faults
 pub mod Graph
 pub mod Orders
