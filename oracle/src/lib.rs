@@ -2,6 +2,7 @@
 pub mod batch;
 pub mod expr_lines;
 pub mod faults;
+pub mod generate;
 mod panics;
 pub mod reading;
 pub mod refusals;
