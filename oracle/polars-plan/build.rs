@@ -4,7 +4,8 @@ use std::path::{Path, PathBuf};
 use std::{env, fs};
 
 const VISIT: &str = "    fn simplify_ir_node_orders(&mut self, current_ir_node: Node) -> bool {\n";
-const REMOVAL: &str = "    fn unlink_node(&mut self, current_ir_node: Node, input_to_current_ir_node: Node) -> bool {\n";
+const REMOVAL: &str =
+    "    fn unlink_node(&mut self, current_ir_node: Node, input_to_current_ir_node: Node) -> bool {\n";
 const LOOK: &str = "    fn rec(&mut self, current_ae_node: Node, recursion: RecursionState) -> ObservableOrders {\n";
 const LIST: &str = "    pub fn simplify_projected_exprs(\n";
 
@@ -50,12 +51,8 @@ fn main() {
     let text = read(&module.join("expr.rs"));
     let text = insert_after(&text, LOOK, "crate::watch::look();\n");
     let place = only_place(&text, LIST);
-    let text = [
-        &text[..place],
-        "    fn simplify_projected_exprs_unwatched(\n",
-        &text[place + LIST.len()..],
-        WATCHED_LIST,
-    ];
+    let text =
+        [&text[..place], "    fn simplify_projected_exprs_unwatched(\n", &text[place + LIST.len()..], WATCHED_LIST];
     write(&copies.join("expr.rs"), &text.concat());
 
     for name in ["ir_graph.rs", "ir_node_key.rs"] {
@@ -63,11 +60,8 @@ fn main() {
     }
 
     let text = read(&upstream.join("options.rs"));
-    let flags = between(
-        &text,
-        "bitflags!(\n",
-        "#[derive(Clone, Copy, PartialEq, Eq, Debug, Hash)]\npub enum CastingRules {\n",
-    );
+    let flags =
+        between(&text, "bitflags!(\n", "#[derive(Clone, Copy, PartialEq, Eq, Debug, Hash)]\npub enum CastingRules {\n");
     write(&out.join("function_flags.rs"), flags);
 
     let text = read(&upstream.join("functions/mod.rs"));

@@ -21,10 +21,7 @@ const FLAGS: [FunctionFlags; 6] = [
 ];
 
 pub fn facts(line: &ExprLine) -> Facts {
-    Facts {
-        scalar: line.scalar == 1,
-        length_preserving: line.length_preserving == 1,
-    }
+    Facts { scalar: line.scalar == 1, length_preserving: line.length_preserving == 1 }
 }
 
 pub fn record(line: &ExprLine, index: usize) -> AExpr {
@@ -80,10 +77,8 @@ pub fn record(line: &ExprLine, index: usize) -> AExpr {
                 _ => AExpr::AnonymousFunction { input, options },
             }
         },
-        20 => AExpr::AnonymousAgg {
-            input: nodes(0).map(ExprIR::from_node).collect(),
-            fmt_str: Unread,
-            function: Unread,
+        20 => {
+            AExpr::AnonymousAgg { input: nodes(0).map(ExprIR::from_node).collect(), fmt_str: Unread, function: Unread }
         },
         21 => AExpr::Agg(first_or_last(child(0), index)),
         22 => AExpr::Agg(order_lifting(child(0), index)),

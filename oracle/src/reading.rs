@@ -50,11 +50,7 @@ fn line_form(line: &[u8]) -> Option<(u8, Vec<u8>)> {
         _ => return None,
     };
 
-    let numbers: Vec<u8> = fields
-        .strip_prefix(b",")?
-        .split(|&byte| byte == b',')
-        .map(number)
-        .collect::<Option<_>>()?;
+    let numbers: Vec<u8> = fields.strip_prefix(b",")?.split(|&byte| byte == b',').map(number).collect::<Option<_>>()?;
 
     (numbers.len() >= least).then_some((letter, numbers))
 }
@@ -69,13 +65,7 @@ fn number(digits: &[u8]) -> Option<u8> {
 
 fn expr_line(numbers: &[u8]) -> Option<ExprLine> {
     let (&[kind, scalar, length_preserving, option], children) = numbers.split_first_chunk()?;
-    let line = ExprLine {
-        kind,
-        scalar,
-        length_preserving,
-        option,
-        children: children.to_vec(),
-    };
+    let line = ExprLine { kind, scalar, length_preserving, option, children: children.to_vec() };
     expr_fits(&line).then_some(line)
 }
 
@@ -83,14 +73,7 @@ fn step_line(numbers: &[u8]) -> Option<StepLine> {
     let (&[kind, a, b, c, n1, n2, n3], lists) = numbers.split_first_chunk()?;
     let (inputs, exprs) = lists.split_at_checked(usize::from(n1))?;
     let (exprs, more_exprs) = exprs.split_at_checked(usize::from(n2))?;
-    let line = StepLine {
-        kind,
-        a,
-        b,
-        c,
-        inputs: inputs.to_vec(),
-        exprs: exprs.to_vec(),
-        more_exprs: more_exprs.to_vec(),
-    };
+    let line =
+        StepLine { kind, a, b, c, inputs: inputs.to_vec(), exprs: exprs.to_vec(), more_exprs: more_exprs.to_vec() };
     (more_exprs.len() == usize::from(n3) && step_fits(&line)).then_some(line)
 }

@@ -90,17 +90,10 @@ fn walk(sheet: &Sheet) -> Result<Finished, Stop> {
     let (edge_keys, edges) = panics::catch(|| simplify_and_fetch_orderings(&roots, &mut steps, &mut exprs))
         .map_err(|caught| stop(caught, &steps))?;
 
-    let slots = slots_by_edge(edges.values().len(), &steps, |key| {
-        edge_keys.get(key).map_or(&[], |keys| &keys.in_edges)
-    });
-    let edges = slots.into_iter().zip(edges.values());
+    let slots = slots_by_edge(&edge_keys, &steps).into_iter();
+    let edges = slots.zip(edges.values()).map(|(slot, edge)| Edge { slot, ordered: !edge.is_unordered() });
 
-    Ok(Finished {
-        edges: edges.map(|(slot, edge)| Edge { slot, ordered: !edge.is_unordered() }).collect(),
-        exprs,
-        steps,
-        tally: watch::tally(),
-    })
+    Ok(Finished { edges: edges.collect(), exprs, steps, tally: watch::tally() })
 }
 
 /// The refusal that a panic in the latest visit stands for, if it stands for one.

@@ -12,12 +12,8 @@ use polars_utils::unique_id::UniqueId;
 
 use crate::sheet::StepLine;
 
-const KEEP: [UniqueKeepStrategy; 4] = [
-    UniqueKeepStrategy::First,
-    UniqueKeepStrategy::Last,
-    UniqueKeepStrategy::Any,
-    UniqueKeepStrategy::None,
-];
+const KEEP: [UniqueKeepStrategy; 4] =
+    [UniqueKeepStrategy::First, UniqueKeepStrategy::Last, UniqueKeepStrategy::Any, UniqueKeepStrategy::None];
 
 const MAINTAIN_JOIN: [MaintainOrderJoin; 5] = [
     MaintainOrderJoin::None,
@@ -83,11 +79,7 @@ pub fn step(line: &StepLine, index: usize) -> IR {
         },
         8 => IR::Distinct {
             input: inputs[0],
-            options: DistinctOptionsIR {
-                maintain_order: a,
-                keep_strategy: KEEP[usize::from(line.c)],
-                slice: slice(),
-            },
+            options: DistinctOptionsIR { maintain_order: a, keep_strategy: KEEP[usize::from(line.c)], slice: slice() },
         },
         9 => IR::Join {
             input_left: inputs[0],
@@ -96,10 +88,7 @@ pub fn step(line: &StepLine, index: usize) -> IR {
             left_on: exprs(),
             right_on: more_exprs(),
             options: Arc::new(JoinOptionsIR {
-                args: JoinArgs {
-                    how: join_type(line.a, index),
-                    maintain_order: MAINTAIN_JOIN[usize::from(line.b)],
-                },
+                args: JoinArgs { how: join_type(line.a, index), maintain_order: MAINTAIN_JOIN[usize::from(line.b)] },
             }),
         },
         10 => IR::Gather { input: inputs[0], idxs: inputs[1] },
@@ -157,9 +146,7 @@ fn kind_and_options(step: &IR) -> (u8, [u8; 3]) {
         },
         IR::Select { .. } => (3, [0, 0, 0]),
         IR::HStack { schema, .. } => (4, [schema.len() as u8, 0, 0]),
-        IR::Sort { slice, sort_options, .. } => {
-            (5, [sort_options.maintain_order.into(), slice.is_some().into(), 0])
-        },
+        IR::Sort { slice, sort_options, .. } => (5, [sort_options.maintain_order.into(), slice.is_some().into(), 0]),
         IR::Filter { .. } => (6, [0, 0, 0]),
         IR::GroupBy { maintain_order, options, apply, .. } => {
             let apply = if apply.is_some() { GROUP_BY_APPLY } else { 0 };

@@ -74,25 +74,25 @@ pub fn step_row(kind: u8, b: u8) -> Option<StepRow> {
     let any = || 0..=8;
 
     let (options, counts) = match kind {
-        0 => ([0, 0, 0], [none(), none(), none()]),             // Scan
-        1 => ([0, 0, 0], [any(), none(), none()]),              // UnoptimizedDispatch
-        2 if b == 1 => ([1, 1, 0], [one(), any(), none()]),     // Sink, partitioned
-        2 => ([1, 1, 0], [one(), none(), none()]),              // Sink
-        3 => ([0, 0, 0], [one(), any(), none()]),               // Select
-        4 => ([255, 0, 0], [one(), any(), none()]),             // HStack
-        5 => ([1, 1, 0], [one(), any(), none()]),               // Sort
-        6 => ([0, 0, 0], [one(), one(), none()]),               // Filter
-        7 => ([1, 7, 0], [one(), any(), any()]),                // GroupBy
-        8 => ([1, 1, 3], [one(), none(), none()]),              // Distinct
-        9 => ([3, 4, 0], [two(), any(), any()]),                // Join
-        10 => ([0, 0, 0], [two(), none(), none()]),             // Gather
-        11 => ([1, 1, 0], [any(), none(), none()]),             // Union
-        12 => ([1, 0, 0], [two(), none(), none()]),             // MergeSorted
-        13 => ([7, 0, 0], [one(), none(), none()]),             // MapFunction
-        14 => ([0, 0, 0], [any(), none(), none()]),             // HConcat
-        15 | 17 => ([0, 0, 0], [one(), none(), none()]),        // Slice, SimpleProjection
-        16 => ([0, 0, 0], [1..=8, none(), none()]),             // ExtContext
-        18 => ([255, 0, 0], [one(), none(), none()]),           // Cache
+        0 => ([0, 0, 0], [none(), none(), none()]),         // Scan
+        1 => ([0, 0, 0], [any(), none(), none()]),          // UnoptimizedDispatch
+        2 if b == 1 => ([1, 1, 0], [one(), any(), none()]), // Sink, partitioned
+        2 => ([1, 1, 0], [one(), none(), none()]),          // Sink
+        3 => ([0, 0, 0], [one(), any(), none()]),           // Select
+        4 => ([255, 0, 0], [one(), any(), none()]),         // HStack
+        5 => ([1, 1, 0], [one(), any(), none()]),           // Sort
+        6 => ([0, 0, 0], [one(), one(), none()]),           // Filter
+        7 => ([1, 7, 0], [one(), any(), any()]),            // GroupBy
+        8 => ([1, 1, 3], [one(), none(), none()]),          // Distinct
+        9 => ([3, 4, 0], [two(), any(), any()]),            // Join
+        10 => ([0, 0, 0], [two(), none(), none()]),         // Gather
+        11 => ([1, 1, 0], [any(), none(), none()]),         // Union
+        12 => ([1, 0, 0], [two(), none(), none()]),         // MergeSorted
+        13 => ([7, 0, 0], [one(), none(), none()]),         // MapFunction
+        14 => ([0, 0, 0], [any(), none(), none()]),         // HConcat
+        15 | 17 => ([0, 0, 0], [one(), none(), none()]),    // Slice, SimpleProjection
+        16 => ([0, 0, 0], [1..=8, none(), none()]),         // ExtContext
+        18 => ([255, 0, 0], [one(), none(), none()]),       // Cache
         _ => return None,
     };
 

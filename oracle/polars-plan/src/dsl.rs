@@ -18,10 +18,7 @@ pub struct UnionOptions {
 
 impl Default for UnionOptions {
     fn default() -> Self {
-        Self {
-            slice: None,
-            maintain_order: true,
-        }
+        Self { slice: None, maintain_order: true }
     }
 }
 

@@ -51,12 +51,7 @@ pub fn reset(keep_lists: bool) {
 }
 
 pub fn tally() -> Tally {
-    Tally {
-        visits: VISITS.get(),
-        looks: LOOKS.get(),
-        removed: REMOVED.get(),
-        step: STEP.get(),
-    }
+    Tally { visits: VISITS.get(), looks: LOOKS.get(), removed: REMOVED.get(), step: STEP.get() }
 }
 
 /// The lists kept since the run began.

@@ -23,6 +23,10 @@ noise   random bytes and damaged text
 
 fn main() -> ExitCode {
     let mut words: Vec<String> = std::env::args().skip(1).collect();
+    if words == ["--help"] {
+        print!("{HELP}");
+        return ExitCode::SUCCESS;
+    }
     let share = words.first().is_some_and(|word| word == "--share");
     if share {
         words.remove(0);

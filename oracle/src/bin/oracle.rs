@@ -37,7 +37,11 @@ struct Options {
 
 fn main() -> ExitCode {
     let options = match options() {
-        Ok(options) => options,
+        Ok(Some(options)) => options,
+        Ok(None) => {
+            print!("{HELP}");
+            return ExitCode::SUCCESS;
+        },
         Err(message) => {
             eprint!("{message}");
             return ExitCode::from(2);
@@ -54,12 +58,9 @@ fn main() -> ExitCode {
     }
 }
 
-fn options() -> Result<Options, String> {
-    let mut options = Options {
-        batch: false,
-        out_len: oracle::LEAST_OUTPUT,
-        view: View::Finished,
-    };
+/// The options, or nothing if help is asked for.
+fn options() -> Result<Option<Options>, String> {
+    let mut options = Options { batch: false, out_len: oracle::LEAST_OUTPUT, view: View::Finished };
 
     let mut words = std::env::args().skip(1);
     while let Some(word) = words.next() {
@@ -71,11 +72,12 @@ fn options() -> Result<Options, String> {
                 let number = words.next().and_then(|number| number.parse().ok());
                 options.out_len = number.ok_or("oracle: --out-len takes a number\n")?;
             },
+            "--help" => return Ok(None),
             _ => return Err(HELP.to_string()),
         }
     }
 
-    Ok(options)
+    Ok(Some(options))
 }
 
 /// Whether every panic was one that a refusal stands for.

@@ -239,7 +239,8 @@ fn too_many(random: &mut Random, lines: &mut Vec<Line>) {
         },
         _ => {
             // Aggs beyond the room, in a GroupBy whose references don't matter yet.
-            let group_by = Line { letter: b'P', numbers: vec![u16::from(GROUP_BY), 0, 0, 0, 1, 0, 8, 0, 0, 0, 0, 0, 0, 0, 0, 0] };
+            let group_by =
+                Line { letter: b'P', numbers: vec![u16::from(GROUP_BY), 0, 0, 0, 1, 0, 8, 0, 0, 0, 0, 0, 0, 0, 0, 0] };
             let missing = (MOST_EXPRS + 8).saturating_sub(first_step) / 8;
             lines.extend(vec![group_by; missing]);
         },
@@ -266,12 +267,20 @@ fn bad_form(random: &mut Random, text: &mut Vec<u8>) {
         return;
     }
     let comma = *random.pick(&commas);
-    let insertion: &[u8] = *random.pick(&[&b"0"[..], b"25", b"-", b" ", b"\t", b",", b"256,", b"999,", b"+", b"\r", b"00,", b"\n"]);
+    let insertion: &[u8] =
+        *random.pick(&[&b"0"[..], b"25", b"-", b" ", b"\t", b",", b"256,", b"999,", b"+", b"\r", b"00,", b"\n"]);
     match random.below(5) {
         0 => {
             text.pop();
         },
-        1 => text.extend_from_slice(*random.pick(&[&b"E,0,0,1,0\n"[..], b"\n", b"P,0,0,0,0,0,0\n", b"G,0,0,0\n", b"e,0,0,1,0\n", b"P"])),
+        1 => text.extend_from_slice(*random.pick(&[
+            &b"E,0,0,1,0\n"[..],
+            b"\n",
+            b"P,0,0,0,0,0,0\n",
+            b"G,0,0,0\n",
+            b"e,0,0,1,0\n",
+            b"P",
+        ])),
         _ => {
             text.splice(comma + 1..comma + 1, insertion.iter().copied());
         },

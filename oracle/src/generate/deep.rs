@@ -12,12 +12,13 @@ const CACHE: u8 = 18;
 
 pub fn deep(random: &mut Random) -> Sheet {
     let largest_tree = random.between(1, 4);
-    let way = random.below(4);
+    let way = random.below(9);
     let mut maker = Maker::new(random, Shape { steps: MOST_STEPS, largest_tree, careful: 99 });
     match way {
-        0 | 1 => maker.high_tree(),
-        2 => maker.long_chain(),
-        _ => maker.cache_ladder(),
+        0..4 => maker.high_tree(),
+        4..6 => maker.long_chain(),
+        6..8 => maker.cache_ladder(),
+        _ => maker.cache_fan(),
     }
     maker.shuffled()
 }
@@ -39,9 +40,7 @@ impl Maker<'_> {
         }
         let step = self.add_step(kind, inputs);
         let line = &mut self.sheet.steps[usize::from(step)];
-        if kind == 6 || line.kind == 3 {
-            line.kind = kind;
-        }
+        line.kind = kind;
         match kind {
             7 if as_agg => line.more_exprs = vec![root],
             2 => {
@@ -62,7 +61,8 @@ impl Maker<'_> {
 
         while self.sheet.exprs.len() < size {
             let left = size - self.sheet.exprs.len();
-            let fitting: Vec<(u8, u8)> = kinds.iter().copied().filter(|&(kind, option)| least(kind, option) <= left).collect();
+            let fitting: Vec<(u8, u8)> =
+                kinds.iter().copied().filter(|&(kind, option)| least(kind, option) <= left).collect();
             let (kind, option) = if fitting.is_empty() { (7, 0) } else { *self.random.pick(&fitting) };
 
             let count = least(kind, option);
@@ -105,6 +105,22 @@ impl Maker<'_> {
         }
         let input = self.open.remove(0);
         self.add_step(SINK, vec![input]);
+    }
+
+    /// One cache that every later step names with all the inputs it has left: the most edges that a sheet can have.
+    fn cache_fan(&mut self) {
+        const KINDS: [u8; 4] = [1, 11, 14, 16];
+
+        let scan = self.add_step(SCAN, vec![]);
+        let cache = self.add_step(CACHE, vec![scan]);
+        let mut top = cache;
+        while self.sheet.steps.len() < MOST_STEPS - 1 {
+            let mut inputs = vec![cache; 8];
+            inputs[self.random.below(8)] = top;
+            let kind = *self.random.pick(&KINDS);
+            top = self.add_step(kind, inputs);
+        }
+        self.add_step(SINK, vec![top]);
     }
 
     /// A cache, a step that names it up to eight times, a cache of that, and so on; Sinks on some of the caches.

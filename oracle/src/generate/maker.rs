@@ -24,14 +24,7 @@ pub struct Maker<'a> {
 
 impl<'a> Maker<'a> {
     pub fn new(random: &'a mut Random, shape: Shape) -> Self {
-        Maker {
-            random,
-            shape,
-            sheet: Sheet::default(),
-            open: vec![],
-            caches: vec![],
-            room: crate::reading::MOST_EXPRS,
-        }
+        Maker { random, shape, sheet: Sheet::default(), open: vec![], caches: vec![], room: crate::reading::MOST_EXPRS }
     }
 
     /// Puts the lines of each letter in another order, if it so happens; a line still comes after those it names.

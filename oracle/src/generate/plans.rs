@@ -1,7 +1,6 @@
 //! Plans: steps laid one upon the other until all ends in Sinks.
 use super::maker::Maker;
 use super::trees::{ANYWHERE, KEY, Place};
-use crate::reading::MOST_EXPRS;
 use crate::sheet::{Sheet, StepLine};
 use crate::tables::STEP_KINDS;
 
@@ -64,7 +63,6 @@ impl Maker<'_> {
             self.sheet.steps[step].exprs[entry] = self.add_expr(kind, option, vec![wrapped]);
         }
 
-        debug_assert!(self.sheet.exprs.len() <= MOST_EXPRS + 1);
         self.shuffled()
     }
 

@@ -94,10 +94,7 @@ impl Item for AExpr {
 
     fn facts_when_added(&self) -> Facts {
         assert!(matches!(self, AExpr::Agg(IRAggExpr::Implode { .. })), "{self:?} added");
-        Facts {
-            scalar: true,
-            length_preserving: false,
-        }
+        Facts { scalar: true, length_preserving: false }
     }
 
     fn facts_when_replacing(&self, place: Node, arena: &Arena<AExpr>) -> Facts {

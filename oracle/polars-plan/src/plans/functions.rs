@@ -15,4 +15,9 @@ pub enum FunctionIR {
 #[derive(Clone, Copy, Debug)]
 pub struct HintIR;
 
-include!(concat!(env!("OUT_DIR"), "/function_ir.rs"));
+#[allow(warnings)]
+mod methods {
+    use super::FunctionIR;
+
+    include!(concat!(env!("OUT_DIR"), "/function_ir.rs"));
+}

@@ -10,14 +10,32 @@ use crate::plans::{DistinctOptionsIR, ExprIR, FunctionIR, SortOptions, Unread};
 
 #[derive(Clone, Debug)]
 pub enum IR {
-    Slice { input: Node },
-    Filter { input: Node, predicate: ExprIR },
+    Slice {
+        input: Node,
+    },
+    Filter {
+        input: Node,
+        predicate: ExprIR,
+    },
     Scan,
     DataFrameScan,
-    SimpleProjection { input: Node },
-    Select { input: Node, expr: Vec<ExprIR> },
-    Sort { input: Node, by_column: Vec<ExprIR>, slice: Option<(i64, usize)>, sort_options: SortOptions },
-    Cache { input: Node, id: UniqueId },
+    SimpleProjection {
+        input: Node,
+    },
+    Select {
+        input: Node,
+        expr: Vec<ExprIR>,
+    },
+    Sort {
+        input: Node,
+        by_column: Vec<ExprIR>,
+        slice: Option<(i64, usize)>,
+        sort_options: SortOptions,
+    },
+    Cache {
+        input: Node,
+        id: UniqueId,
+    },
     GroupBy {
         input: Node,
         keys: Vec<ExprIR>,
@@ -35,17 +53,49 @@ pub enum IR {
         right_on: Vec<ExprIR>,
         options: Arc<JoinOptionsIR>,
     },
-    Gather { input: Node, idxs: Node },
-    HStack { input: Node, exprs: Vec<ExprIR>, schema: Schema },
-    Distinct { input: Node, options: DistinctOptionsIR },
-    MapFunction { input: Node, function: FunctionIR },
-    Union { inputs: Vec<Node>, options: UnionOptions },
-    HConcat { inputs: Vec<Node> },
-    ExtContext { input: Node, contexts: Vec<Node> },
-    Sink { input: Node, payload: SinkTypeIR },
-    SinkMultiple { inputs: Vec<Node> },
-    MergeSorted { input_left: Node, input_right: Node, maintain_order: bool },
-    UnoptimizedDispatch { inputs: Vec<Node> },
+    Gather {
+        input: Node,
+        idxs: Node,
+    },
+    HStack {
+        input: Node,
+        exprs: Vec<ExprIR>,
+        schema: Schema,
+    },
+    Distinct {
+        input: Node,
+        options: DistinctOptionsIR,
+    },
+    MapFunction {
+        input: Node,
+        function: FunctionIR,
+    },
+    Union {
+        inputs: Vec<Node>,
+        options: UnionOptions,
+    },
+    HConcat {
+        inputs: Vec<Node>,
+    },
+    ExtContext {
+        input: Node,
+        contexts: Vec<Node>,
+    },
+    Sink {
+        input: Node,
+        payload: SinkTypeIR,
+    },
+    SinkMultiple {
+        inputs: Vec<Node>,
+    },
+    MergeSorted {
+        input_left: Node,
+        input_right: Node,
+        maintain_order: bool,
+    },
+    UnoptimizedDispatch {
+        inputs: Vec<Node>,
+    },
     Invalid,
 }
 
@@ -67,6 +117,7 @@ pub struct Schema {
 }
 
 impl Schema {
+    #[allow(clippy::len_without_is_empty)]
     pub fn len(&self) -> usize {
         self.columns
     }

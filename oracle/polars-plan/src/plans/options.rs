@@ -1,8 +1,14 @@
 //! Options of functions and of Distinct. `FunctionFlags` and its methods are the text of the source.
-use bitflags::bitflags;
 use polars_core::frame::UniqueKeepStrategy;
 
-include!(concat!(env!("OUT_DIR"), "/function_flags.rs"));
+pub use flags::FunctionFlags;
+
+#[allow(warnings)]
+mod flags {
+    use bitflags::bitflags;
+
+    include!(concat!(env!("OUT_DIR"), "/function_flags.rs"));
+}
 
 #[derive(Clone, Copy, Debug, PartialEq)]
 pub struct FunctionOptions {

@@ -13,9 +13,7 @@ impl<K, V> Default for IndexMap<K, V> {
 
 impl<K, V> IndexMap<K, V> {
     pub fn of_capacity(capacity: usize) -> Self {
-        Self {
-            entries: Vec::with_capacity(capacity),
-        }
+        Self { entries: Vec::with_capacity(capacity) }
     }
 
     pub fn len(&self) -> usize {
@@ -77,13 +75,8 @@ impl<K: Eq, V> IndexMap<K, V> {
 
     pub fn entry(&mut self, key: K) -> Entry<'_, K, V> {
         match self.place(&key) {
-            Some(place) => Entry::Occupied(OccupiedEntry {
-                value: &mut self.entries[place].1,
-            }),
-            None => Entry::Vacant(VacantEntry {
-                entries: &mut self.entries,
-                key,
-            }),
+            Some(place) => Entry::Occupied(OccupiedEntry { value: &mut self.entries[place].1 }),
+            None => Entry::Vacant(VacantEntry { entries: &mut self.entries, key }),
         }
     }
 }

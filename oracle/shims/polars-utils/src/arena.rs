@@ -23,10 +23,7 @@ pub struct Arena<T: Item> {
 
 impl<T: Item> Default for Arena<T> {
     fn default() -> Self {
-        Self {
-            items: Vec::new(),
-            facts: Vec::new(),
-        }
+        Self { items: Vec::new(), facts: Vec::new() }
     }
 }
 

@@ -34,10 +34,7 @@ pub struct SlotMap<K: Key, V> {
 
 impl<K: Key, V> SlotMap<K, V> {
     pub fn with_capacity_and_key(capacity: usize) -> Self {
-        Self {
-            values: Vec::with_capacity(capacity),
-            key: PhantomData,
-        }
+        Self { values: Vec::with_capacity(capacity), key: PhantomData }
     }
 
     pub fn insert(&mut self, value: V) -> K {

@@ -1,7 +1,5 @@
 //! The cases A to J of the paper.
-mod common;
-
-use common::answer;
+use crate::answer;
 
 const A: &str = "\
 E,0,0,1,0
