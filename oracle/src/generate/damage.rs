@@ -256,6 +256,12 @@ fn lengthen(random: &mut Random, text: &mut Vec<u8>) {
     text.truncate(length);
 }
 
+/// Put after a comma, these take a line out of its form, nearly always.
+const AFTER_COMMA: [&str; 12] = ["0", "25", "-", " ", "\t", ",", "256,", "999,", "+", "\r", "00,", "\n"];
+
+/// Put after the last line, these are not of the form.
+const LINES: [&str; 6] = ["E,0,0,1,0\n", "\n", "P,0,0,0,0,0,0\n", "G,0,0,0\n", "e,0,0,1,0\n", "P"];
+
 fn bad_form(random: &mut Random, text: &mut Vec<u8>) {
     if text.is_empty() || random.chance(40) {
         harm(random, text);
@@ -263,26 +269,15 @@ fn bad_form(random: &mut Random, text: &mut Vec<u8>) {
     }
 
     let commas: Vec<usize> = (0..text.len()).filter(|&place| text[place] == b',').collect();
-    if commas.is_empty() {
-        return;
-    }
-    let comma = *random.pick(&commas);
-    let insertion: &[u8] =
-        *random.pick(&[&b"0"[..], b"25", b"-", b" ", b"\t", b",", b"256,", b"999,", b"+", b"\r", b"00,", b"\n"]);
     match random.below(5) {
         0 => {
             text.pop();
         },
-        1 => text.extend_from_slice(*random.pick(&[
-            &b"E,0,0,1,0\n"[..],
-            b"\n",
-            b"P,0,0,0,0,0,0\n",
-            b"G,0,0,0\n",
-            b"e,0,0,1,0\n",
-            b"P",
-        ])),
+        1 => text.extend_from_slice(random.pick(&LINES).as_bytes()),
+        _ if commas.is_empty() => {},
         _ => {
-            text.splice(comma + 1..comma + 1, insertion.iter().copied());
+            let after = random.pick(&commas) + 1;
+            text.splice(after..after, random.pick(&AFTER_COMMA).bytes());
         },
     }
 }

@@ -1,5 +1,6 @@
 //! What docs/DIFFERENCES.md tells, sheet by sheet.
 use oracle::run::Stop;
+use oracle::sheet::{ExprLine, Sheet, StepLine};
 
 use crate::{answer, lines, list_lines};
 
@@ -11,6 +12,14 @@ fn unchecked(sheet: &str) -> Result<String, Stop> {
     let lines = oracle::reading::read(sheet.as_bytes()).unwrap();
     let finished = oracle::run::run(&lines)?;
     Ok(String::from_utf8(finished.text()).unwrap())
+}
+
+fn expr(kind: u8, children: Vec<u8>) -> ExprLine {
+    ExprLine { kind, children, ..ExprLine::default() }
+}
+
+fn step(kind: u8, inputs: Vec<u8>, exprs: Vec<u8>) -> StepLine {
+    StepLine { kind, inputs, exprs, ..StepLine::default() }
 }
 
 /// The sheet is refused by that number, and the Rust finishes it so.
@@ -25,6 +34,36 @@ fn a_panic_in_the_rust(number: u8, sheet: &str, words: &str) {
     assert_eq!(answer(sheet), format!("R,{number}\n"));
     match unchecked(sheet) {
         Err(Stop::Panicked(report)) => assert!(report.contains(words), "{report}"),
+        other => panic!("{other:?}"),
+    }
+}
+
+#[test]
+fn the_rust_has_no_limits_of_its_own() {
+    assert_eq!(answer(""), "R,6\n");
+    let finished = oracle::run::run(&Sheet::default()).map(|finished| finished.text());
+    assert_eq!(finished, Ok(b"T,0,0,0\n".to_vec()));
+
+    let mut chain = Sheet::default();
+    chain.steps.push(step(0, vec![], vec![]));
+    for input in 0..200 {
+        chain.exprs.push(expr(0, vec![]));
+        chain.steps.push(step(3, vec![input], vec![input]));
+    }
+    chain.steps.push(step(2, vec![200], vec![]));
+    assert_eq!(answer(&String::from_utf8(chain.text()).unwrap()), "R,5\n");
+    assert_eq!(oracle::run::run(&chain).unwrap().tally.visits, 404);
+}
+
+#[test]
+fn a_min_by_of_one() {
+    let sheet = Sheet {
+        exprs: vec![expr(0, vec![]), expr(18, vec![0])],
+        steps: vec![step(0, vec![], vec![]), step(3, vec![0], vec![1]), step(2, vec![1], vec![])],
+    };
+    assert_eq!(answer(&String::from_utf8(sheet.text()).unwrap()), "R,4\n");
+    match oracle::run::run(&sheet).map(|finished| finished.text()) {
+        Err(Stop::Panicked(report)) => assert!(report.contains("left == right"), "{report}"),
         other => panic!("{other:?}"),
     }
 }

@@ -71,3 +71,14 @@ fn length_of_the_output() {
     assert_eq!(oracle::finish(sheet.as_bytes(), 0), Err(1));
     assert_eq!(oracle::finish(&[b'x'; 16_385], 16_383), Err(1));
 }
+
+#[test]
+fn the_most_looks() {
+    // A chain of 127 elementwise Functions over a Column: 128 x 131 / 2 looks at each of two visits.
+    let mut exprs = COLUMN.to_string();
+    for child in 0..127 {
+        exprs += &format!("E,19,0,1,3,{child}\n");
+    }
+    let finished = answer(&format!("{exprs}{SCAN}P,3,0,0,0,1,1,0,0,127\nP,2,0,0,0,1,0,0,1\n"));
+    assert_eq!(lines(&finished, 'T'), ["T,0,6,16768"]);
+}
