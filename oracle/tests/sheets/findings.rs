@@ -93,6 +93,9 @@ fn lines_named_twice() {
     taken_by_the_rust(8, &format!("{SCAN}{SINK}{SINK}"), "G,1,0,0\nG,2,0,0\nT,0,8,0\n");
     let sheet = format!("E,0,0,1,0\n{SCAN}P,3,0,0,0,1,2,0,0,0,0\nP,2,0,0,0,1,0,0,1\n");
     taken_by_the_rust(8, &sheet, "T,0,6,4\n");
+    let sheet = format!("E,0,0,1,0\n{SCAN}P,3,0,0,0,1,1,0,0,0\nP,3,0,0,0,1,1,0,1,0\nP,2,0,0,0,1,0,0,2\n");
+    taken_by_the_rust(8, &sheet, "T,0,8,8\n");
+    taken_by_the_rust(8, &format!("P,14,0,0,0,0,0,0\n{SINK}{SINK}"), "G,1,0,0\nG,2,0,0\nT,0,8,0\n");
     // A step with an input panics instead, as does a Union without one.
     let sheet = format!("{SCAN}P,15,0,0,0,1,0,0,0\nP,2,0,0,0,1,0,0,1\nP,2,0,0,0,1,0,0,1\n");
     a_panic_in_the_rust(8, &sheet, "current_edges.in_edges.is_empty()");
@@ -110,6 +113,18 @@ P,2,0,0,0,1,0,0,1
 P,2,0,0,0,1,0,0,2
 ";
     taken_by_the_rust(8, sheet, "G,3,0,0\nG,4,0,0\nG,2,0,0\nT,0,10,0\n");
+
+    // Of two inputs, that of the line which the first pass meets first is followed, and written into the other.
+    let sheet = "\
+P,0,0,0,0,0,0,0
+P,0,0,0,0,0,0,0
+P,18,5,0,0,1,0,0,0
+P,18,5,0,0,1,0,0,1
+P,2,0,0,0,1,0,0,2
+P,2,0,0,0,1,0,0,3
+";
+    taken_by_the_rust(8, sheet, "G,4,0,0\nG,5,0,0\nG,3,0,0\nT,0,10,0\n");
+    assert_eq!(lines(&unchecked(sheet).unwrap(), 'P')[2..4], ["P,18,5,0,0,1,0,0,1", "P,18,5,0,0,1,0,0,1"]);
 }
 
 #[test]
@@ -151,6 +166,19 @@ T,0,6,19
     let (lists, _) = list_lines(sheet);
     let observed: Vec<&str> = lists.iter().map(|line| line.split(',').nth(5).unwrap()).collect();
     assert_eq!(observed, ["2", "1"]);
+
+    // A Sort step below goes too.
+    let with_sort = sheet.replace(
+        "P,3,0,0,0,1,1,0,0,4\nP,2,0,0,0,1,0,0,1\n",
+        "P,5,0,0,0,1,0,0,0\nP,3,0,0,0,1,1,0,1,4\nP,2,0,0,0,1,0,0,2\n",
+    );
+    assert_eq!(lines(&answer(&with_sort), 'T'), ["T,1,7,19"]);
+
+    // Under Min, the Sink may keep order.
+    let under_min = sheet
+        .replace("P,0,0,0,0,0,0,0\n", "E,22,1,0,0,4\nP,0,0,0,0,0,0,0\n")
+        .replace("1,1,0,0,4\nP,2,0", "1,1,0,0,5\nP,2,1");
+    assert_eq!(lines(&answer(&under_min), 'G'), ["G,2,0,0", "G,1,0,0"]);
 }
 
 #[test]
@@ -171,13 +199,19 @@ P,2,0,0,0,1,0,0,1
     let after_each: Vec<&str> = text.lines().filter(|line| !line.starts_with('L')).collect();
     assert_eq!(after_each[..3], ["E,0,0,1,0", "E,0,0,1,0", "E,10,0,1,0,1"]);
     assert_eq!(after_each[3..], ["E,0,0,1,0", "E,0,0,1,0", "E,0,0,1,0"]);
+
+    // With one more above, the upper one stays.
+    let two = sheet.replace("E,10,0,1,0,1\n", "E,10,0,0,0,1\nE,10,0,1,0,2\n").replace("1,1,0,0,2", "1,1,0,0,3");
+    assert_eq!(lines(&answer(&two), 'E'), ["E,0,0,1,0", "E,0,0,1,0", "E,0,0,1,0", "E,10,0,1,0,2"]);
 }
 
 #[test]
 fn a_map_function_never_loosens_its_input() {
     for function in 0..8 {
         let sheet = format!("{SCAN}P,13,{function},0,0,1,0,0,0\nP,2,0,0,0,1,0,0,1\n");
-        assert_eq!(lines(&answer(&sheet), 'G'), ["G,2,0,0", "G,1,0,1"]);
+        assert_eq!(lines(&answer(&sheet), 'G')[1], "G,1,0,1");
+        let sorted = format!("{SCAN}P,5,0,0,0,1,0,0,0\nP,13,{function},0,0,1,0,0,1\nP,2,0,0,0,1,0,0,2\n");
+        assert!(answer(&sorted).contains("\nT,0,"));
     }
 }
 
