@@ -8,6 +8,7 @@ use polars_plan::plans::{
 };
 use polars_utils::arena::Node;
 
+use crate::kinds::expr as kind;
 use crate::sheet::ExprLine;
 
 /// The bits of a Function's option, from the lowest.
@@ -31,23 +32,25 @@ pub fn record(line: &ExprLine, index: usize) -> AExpr {
     let sort_options = |maintain_order| SortOptions { maintain_order };
 
     match line.kind {
-        0 => AExpr::Column(Unread),
-        1 => AExpr::Literal(LiteralValue { scalar: line.scalar == 1 }),
-        2 => AExpr::Element,
-        3 => AExpr::StructField(Unread),
-        4 => AExpr::Len,
-        5 => AExpr::BinaryExpr { left: child(0), op: Unread, right: child(1) },
-        6 => AExpr::Ternary { predicate: child(0), truthy: child(1), falsy: child(2) },
-        7 => AExpr::Cast { expr: child(0), options: Unread },
-        8 => AExpr::Explode { expr: child(0), options: Unread },
-        9 => AExpr::Sort { expr: child(0), options: sort_options(false) },
-        10 => AExpr::SortBy { expr: child(0), by: nodes(1).collect(), sort_options: sort_options(on) },
-        11 => AExpr::Filter { input: child(0), by: child(1) },
-        12 => AExpr::Gather { expr: child(0), idx: child(1), returns_scalar: on, null_on_oob: false },
-        13 => AExpr::Slice { input: child(0), offset: child(1), length: child(2) },
-        14 => AExpr::Eval { expr: child(0), evaluation: child(1), variant: eval_variant(on, index) },
-        15 => AExpr::StructEval { expr: child(0), evaluation: nodes(1).map(ExprIR::from_node).collect() },
-        16 => {
+        kind::COLUMN => AExpr::Column(Unread),
+        kind::LITERAL => AExpr::Literal(LiteralValue { scalar: line.scalar == 1 }),
+        kind::ELEMENT => AExpr::Element,
+        kind::STRUCT_FIELD => AExpr::StructField(Unread),
+        kind::LEN => AExpr::Len,
+        kind::BINARY_EXPR => AExpr::BinaryExpr { left: child(0), op: Unread, right: child(1) },
+        kind::TERNARY => AExpr::Ternary { predicate: child(0), truthy: child(1), falsy: child(2) },
+        kind::CAST => AExpr::Cast { expr: child(0), options: Unread },
+        kind::EXPLODE => AExpr::Explode { expr: child(0), options: Unread },
+        kind::SORT => AExpr::Sort { expr: child(0), options: sort_options(false) },
+        kind::SORT_BY => AExpr::SortBy { expr: child(0), by: nodes(1).collect(), sort_options: sort_options(on) },
+        kind::FILTER => AExpr::Filter { input: child(0), by: child(1) },
+        kind::GATHER => AExpr::Gather { expr: child(0), idx: child(1), returns_scalar: on, null_on_oob: false },
+        kind::SLICE => AExpr::Slice { input: child(0), offset: child(1), length: child(2) },
+        kind::EVAL => AExpr::Eval { expr: child(0), evaluation: child(1), variant: eval_variant(on, index) },
+        kind::STRUCT_EVAL => {
+            AExpr::StructEval { expr: child(0), evaluation: nodes(1).map(ExprIR::from_node).collect() }
+        },
+        kind::OVER => {
             let mut partition_by: Vec<Node> = nodes(1).collect();
             let order_by = if on { partition_by.pop() } else { None };
             AExpr::Over {
@@ -57,19 +60,19 @@ pub fn record(line: &ExprLine, index: usize) -> AExpr {
                 mapping: Unread,
             }
         },
-        17 => AExpr::Rolling {
+        kind::ROLLING => AExpr::Rolling {
             function: child(0),
             index_column: child(1),
             period: Unread,
             offset: Unread,
             closed_window: Unread,
         },
-        18 => AExpr::Function {
+        kind::MIN_BY => AExpr::Function {
             input: nodes(0).map(ExprIR::from_node).collect(),
             function: [IRFunctionExpr::MinBy, IRFunctionExpr::MaxBy][index % 2],
             options: function_options(0),
         },
-        19 => {
+        kind::FUNCTION => {
             let input = nodes(0).map(ExprIR::from_node).collect();
             let options = function_options(line.option);
             match index % 2 {
@@ -77,14 +80,14 @@ pub fn record(line: &ExprLine, index: usize) -> AExpr {
                 _ => AExpr::AnonymousFunction { input, options },
             }
         },
-        20 => {
+        kind::ANONYMOUS_AGG => {
             AExpr::AnonymousAgg { input: nodes(0).map(ExprIR::from_node).collect(), fmt_str: Unread, function: Unread }
         },
-        21 => AExpr::Agg(first_or_last(child(0), index)),
-        22 => AExpr::Agg(order_lifting(child(0), index)),
-        23 => AExpr::Agg(IRAggExpr::Implode { input: child(0), maintain_order: on }),
-        24 => AExpr::Agg(IRAggExpr::AggGroups(child(0))),
-        kind => unreachable!("an E line of kind {kind}"),
+        kind::FIRST => AExpr::Agg(first_or_last(child(0), index)),
+        kind::MIN => AExpr::Agg(order_lifting(child(0), index)),
+        kind::IMPLODE => AExpr::Agg(IRAggExpr::Implode { input: child(0), maintain_order: on }),
+        kind::AGG_GROUPS => AExpr::Agg(IRAggExpr::AggGroups(child(0))),
+        other => unreachable!("an E line of kind {other}"),
     }
 }
 
@@ -149,40 +152,40 @@ fn numbers(record: &AExpr) -> (u8, u8, Vec<Node>) {
     let first_then = |first: &Node, more: Vec<Node>| [vec![*first], more].concat();
 
     match record {
-        AExpr::Column(_) => (0, 0, vec![]),
-        AExpr::Literal(_) => (1, 0, vec![]),
-        AExpr::Element => (2, 0, vec![]),
-        AExpr::StructField(_) => (3, 0, vec![]),
-        AExpr::Len => (4, 0, vec![]),
-        AExpr::BinaryExpr { left, right, .. } => (5, 0, vec![*left, *right]),
-        AExpr::Ternary { predicate, truthy, falsy } => (6, 0, vec![*predicate, *truthy, *falsy]),
-        AExpr::Cast { expr, .. } => (7, 0, vec![*expr]),
-        AExpr::Explode { expr, .. } => (8, 0, vec![*expr]),
-        AExpr::Sort { expr, .. } => (9, 0, vec![*expr]),
+        AExpr::Column(_) => (kind::COLUMN, 0, vec![]),
+        AExpr::Literal(_) => (kind::LITERAL, 0, vec![]),
+        AExpr::Element => (kind::ELEMENT, 0, vec![]),
+        AExpr::StructField(_) => (kind::STRUCT_FIELD, 0, vec![]),
+        AExpr::Len => (kind::LEN, 0, vec![]),
+        AExpr::BinaryExpr { left, right, .. } => (kind::BINARY_EXPR, 0, vec![*left, *right]),
+        AExpr::Ternary { predicate, truthy, falsy } => (kind::TERNARY, 0, vec![*predicate, *truthy, *falsy]),
+        AExpr::Cast { expr, .. } => (kind::CAST, 0, vec![*expr]),
+        AExpr::Explode { expr, .. } => (kind::EXPLODE, 0, vec![*expr]),
+        AExpr::Sort { expr, .. } => (kind::SORT, 0, vec![*expr]),
         AExpr::SortBy { expr, by, sort_options } => {
-            (10, sort_options.maintain_order.into(), first_then(expr, by.clone()))
+            (kind::SORT_BY, sort_options.maintain_order.into(), first_then(expr, by.clone()))
         },
-        AExpr::Filter { input, by } => (11, 0, vec![*input, *by]),
-        AExpr::Gather { expr, idx, returns_scalar, .. } => (12, (*returns_scalar).into(), vec![*expr, *idx]),
-        AExpr::Slice { input, offset, length } => (13, 0, vec![*input, *offset, *length]),
+        AExpr::Filter { input, by } => (kind::FILTER, 0, vec![*input, *by]),
+        AExpr::Gather { expr, idx, returns_scalar, .. } => (kind::GATHER, (*returns_scalar).into(), vec![*expr, *idx]),
+        AExpr::Slice { input, offset, length } => (kind::SLICE, 0, vec![*input, *offset, *length]),
         AExpr::Eval { expr, evaluation, variant } => {
             let cumulative = matches!(variant, EvalVariant::Cumulative { .. });
-            (14, cumulative.into(), vec![*expr, *evaluation])
+            (kind::EVAL, cumulative.into(), vec![*expr, *evaluation])
         },
-        AExpr::StructEval { expr, evaluation } => (15, 0, first_then(expr, entries(evaluation))),
+        AExpr::StructEval { expr, evaluation } => (kind::STRUCT_EVAL, 0, first_then(expr, entries(evaluation))),
         AExpr::Over { function, partition_by, order_by, .. } => {
             let mut children = first_then(function, partition_by.clone());
             children.extend(order_by.iter().map(|(node, _)| *node));
-            (16, order_by.is_some().into(), children)
+            (kind::OVER, order_by.is_some().into(), children)
         },
-        AExpr::Rolling { function, index_column, .. } => (17, 0, vec![*function, *index_column]),
+        AExpr::Rolling { function, index_column, .. } => (kind::ROLLING, 0, vec![*function, *index_column]),
         AExpr::Function { input, function: IRFunctionExpr::MinBy | IRFunctionExpr::MaxBy, .. } => {
-            (18, 0, entries(input))
+            (kind::MIN_BY, 0, entries(input))
         },
         AExpr::Function { input, options, .. } | AExpr::AnonymousFunction { input, options } => {
-            (19, flag_bits(options.flags), entries(input))
+            (kind::FUNCTION, flag_bits(options.flags), entries(input))
         },
-        AExpr::AnonymousAgg { input, .. } => (20, 0, entries(input)),
+        AExpr::AnonymousAgg { input, .. } => (kind::ANONYMOUS_AGG, 0, entries(input)),
         AExpr::Agg(agg) => agg_numbers(agg),
     }
 }
@@ -192,7 +195,7 @@ fn agg_numbers(agg: &IRAggExpr) -> (u8, u8, Vec<Node>) {
         IRAggExpr::First(node)
         | IRAggExpr::FirstNonNull(node)
         | IRAggExpr::Last(node)
-        | IRAggExpr::LastNonNull(node) => (21, 0, vec![*node]),
+        | IRAggExpr::LastNonNull(node) => (kind::FIRST, 0, vec![*node]),
         IRAggExpr::Min { input, .. }
         | IRAggExpr::Max { input, .. }
         | IRAggExpr::Mean(input)
@@ -202,9 +205,9 @@ fn agg_numbers(agg: &IRAggExpr) -> (u8, u8, Vec<Node>) {
         | IRAggExpr::NUnique(input)
         | IRAggExpr::Count { input, .. }
         | IRAggExpr::Std(input, _)
-        | IRAggExpr::Var(input, _) => (22, 0, vec![*input]),
-        IRAggExpr::Implode { input, maintain_order } => (23, (*maintain_order).into(), vec![*input]),
-        IRAggExpr::AggGroups(node) => (24, 0, vec![*node]),
+        | IRAggExpr::Var(input, _) => (kind::MIN, 0, vec![*input]),
+        IRAggExpr::Implode { input, maintain_order } => (kind::IMPLODE, (*maintain_order).into(), vec![*input]),
+        IRAggExpr::AggGroups(node) => (kind::AGG_GROUPS, 0, vec![*node]),
     }
 }
 

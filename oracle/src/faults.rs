@@ -1,11 +1,7 @@
 //! The faults of a sheet whose lines are each in order: references (7), uses (8) and struct fields (9).
+use crate::kinds::{expr, step};
 use crate::refusals::{REFERENCE, STRUCT_FIELD, USE};
 use crate::sheet::Sheet;
-
-const SINK: u8 = 2;
-const CACHE: u8 = 18;
-const STRUCT_FIELD_KIND: u8 = 3;
-const STRUCT_EVAL: u8 = 15;
 
 pub fn check(sheet: &Sheet) -> Result<(), u8> {
     if !references_fit(sheet) {
@@ -29,7 +25,7 @@ fn references_fit(sheet: &Sheet) -> bool {
 
     let steps_fit = sheet.steps.iter().enumerate().all(|(index, line)| {
         let mut inputs = line.inputs.iter().map(|&input| usize::from(input));
-        inputs.all(|input| input < index && sheet.steps[input].kind != SINK)
+        inputs.all(|input| input < index && sheet.steps[input].kind != step::SINK)
             && line.all_exprs().all(|expr| usize::from(expr) < sheet.exprs.len())
     });
 
@@ -51,12 +47,12 @@ fn uses_fit(sheet: &Sheet) -> bool {
     }
 
     let steps_fit = sheet.steps.iter().zip(step_uses).all(|(line, uses)| match line.kind {
-        SINK => true,
-        CACHE => uses >= 1,
+        step::SINK => true,
+        step::CACHE => uses >= 1,
         _ => uses == 1,
     });
 
-    let mut ids: Vec<u8> = sheet.steps.iter().filter(|line| line.kind == CACHE).map(|line| line.a).collect();
+    let mut ids: Vec<u8> = sheet.steps.iter().filter(|line| line.kind == step::CACHE).map(|line| line.a).collect();
     let caches = ids.len();
     ids.sort_unstable();
     ids.dedup();
@@ -77,7 +73,7 @@ fn struct_fields_fit(sheet: &Sheet) -> bool {
     let in_evaluation = |field: usize| {
         let mut current = field;
         while let Some((parent, place)) = parents[current] {
-            if sheet.exprs[parent].kind == STRUCT_EVAL && place >= 1 {
+            if sheet.exprs[parent].kind == expr::STRUCT_EVAL && place >= 1 {
                 return true;
             }
             current = parent;
@@ -86,5 +82,5 @@ fn struct_fields_fit(sheet: &Sheet) -> bool {
     };
 
     let mut lines = sheet.exprs.iter().enumerate();
-    lines.all(|(index, line)| line.kind != STRUCT_FIELD_KIND || in_evaluation(index))
+    lines.all(|(index, line)| line.kind != expr::STRUCT_FIELD || in_evaluation(index))
 }

@@ -3,6 +3,7 @@ pub mod batch;
 pub mod expr_lines;
 pub mod faults;
 pub mod generate;
+pub mod kinds;
 mod panics;
 pub mod reading;
 pub mod refusals;

@@ -1,11 +1,11 @@
 //! From bytes to lines: the line's form, its table and the room for it (3, 4, 5), line by line, then 6.
+use crate::kinds::step;
 use crate::refusals::{FORM, NO_STEP, ROOM, TABLE};
 use crate::sheet::{ExprLine, Sheet, StepLine};
 use crate::tables::{expr_fits, step_fits};
 
 pub const MOST_EXPRS: usize = 128;
 pub const MOST_STEPS: usize = 32;
-const GROUP_BY: u8 = 7;
 
 pub fn read(bytes: &[u8]) -> Result<Sheet, u8> {
     let mut sheet = Sheet::default();
@@ -21,7 +21,7 @@ pub fn read(bytes: &[u8]) -> Result<Sheet, u8> {
             b'E' if sheet.steps.is_empty() => sheet.exprs.push(expr_line(&numbers).ok_or(TABLE)?),
             b'P' => {
                 let line = step_line(&numbers).ok_or(TABLE)?;
-                if line.kind == GROUP_BY {
+                if line.kind == step::GROUP_BY {
                     agg_entries += line.more_exprs.len();
                 }
                 sheet.steps.push(line);

@@ -10,6 +10,7 @@ use polars_plan::plans::{
 use polars_utils::arena::Node;
 use polars_utils::unique_id::UniqueId;
 
+use crate::kinds::step as kind;
 use crate::sheet::StepLine;
 
 const KEEP: [UniqueKeepStrategy; 4] =
@@ -46,9 +47,9 @@ pub fn step(line: &StepLine, index: usize) -> IR {
     let more_exprs = || entries(&line.more_exprs);
 
     match line.kind {
-        0 => [IR::Scan, IR::DataFrameScan][index % 2].clone(),
-        1 => IR::UnoptimizedDispatch { inputs },
-        2 => IR::Sink {
+        kind::SCAN => [IR::Scan, IR::DataFrameScan][index % 2].clone(),
+        kind::UNOPTIMIZED_DISPATCH => IR::UnoptimizedDispatch { inputs },
+        kind::SINK => IR::Sink {
             input: inputs[0],
             payload: if b {
                 SinkTypeIR::Partitioned(PartitionedSinkOptionsIR { maintain_order: a, keys: exprs() })
@@ -56,16 +57,18 @@ pub fn step(line: &StepLine, index: usize) -> IR {
                 SinkTypeIR::File(FileSinkOptions { maintain_order: a })
             },
         },
-        3 => IR::Select { input: inputs[0], expr: exprs() },
-        4 => IR::HStack { input: inputs[0], exprs: exprs(), schema: Schema { columns: usize::from(line.a) } },
-        5 => IR::Sort {
+        kind::SELECT => IR::Select { input: inputs[0], expr: exprs() },
+        kind::HSTACK => {
+            IR::HStack { input: inputs[0], exprs: exprs(), schema: Schema { columns: usize::from(line.a) } }
+        },
+        kind::SORT => IR::Sort {
             input: inputs[0],
             by_column: exprs(),
             slice: slice(),
             sort_options: SortOptions { maintain_order: a },
         },
-        6 => IR::Filter { input: inputs[0], predicate: exprs().remove(0) },
-        7 => IR::GroupBy {
+        kind::FILTER => IR::Filter { input: inputs[0], predicate: exprs().remove(0) },
+        kind::GROUP_BY => IR::GroupBy {
             input: inputs[0],
             keys: exprs(),
             aggs: more_exprs(),
@@ -77,11 +80,11 @@ pub fn step(line: &StepLine, index: usize) -> IR {
             }),
             apply: (line.b & GROUP_BY_APPLY != 0).then_some(Unread),
         },
-        8 => IR::Distinct {
+        kind::DISTINCT => IR::Distinct {
             input: inputs[0],
             options: DistinctOptionsIR { maintain_order: a, keep_strategy: KEEP[usize::from(line.c)], slice: slice() },
         },
-        9 => IR::Join {
+        kind::JOIN => IR::Join {
             input_left: inputs[0],
             input_right: inputs[1],
             schema: Unread,
@@ -91,16 +94,16 @@ pub fn step(line: &StepLine, index: usize) -> IR {
                 args: JoinArgs { how: join_type(line.a, index), maintain_order: MAINTAIN_JOIN[usize::from(line.b)] },
             }),
         },
-        10 => IR::Gather { input: inputs[0], idxs: inputs[1] },
-        11 => IR::Union { inputs, options: UnionOptions { slice: slice(), maintain_order: a } },
-        12 => IR::MergeSorted { input_left: inputs[0], input_right: inputs[1], maintain_order: a },
-        13 => IR::MapFunction { input: inputs[0], function: FUNCTIONS[usize::from(line.a)] },
-        14 => IR::HConcat { inputs },
-        15 => IR::Slice { input: inputs[0] },
-        16 => IR::ExtContext { input: inputs[0], contexts: inputs[1..].to_vec() },
-        17 => IR::SimpleProjection { input: inputs[0] },
-        18 => IR::Cache { input: inputs[0], id: UniqueId(line.a) },
-        kind => unreachable!("a P line of kind {kind}"),
+        kind::GATHER => IR::Gather { input: inputs[0], idxs: inputs[1] },
+        kind::UNION => IR::Union { inputs, options: UnionOptions { slice: slice(), maintain_order: a } },
+        kind::MERGE_SORTED => IR::MergeSorted { input_left: inputs[0], input_right: inputs[1], maintain_order: a },
+        kind::MAP_FUNCTION => IR::MapFunction { input: inputs[0], function: FUNCTIONS[usize::from(line.a)] },
+        kind::HCONCAT => IR::HConcat { inputs },
+        kind::SLICE => IR::Slice { input: inputs[0] },
+        kind::EXT_CONTEXT => IR::ExtContext { input: inputs[0], contexts: inputs[1..].to_vec() },
+        kind::SIMPLE_PROJECTION => IR::SimpleProjection { input: inputs[0] },
+        kind::CACHE => IR::Cache { input: inputs[0], id: UniqueId(line.a) },
+        other => unreachable!("a P line of kind {other}"),
     }
 }
 
@@ -138,25 +141,27 @@ pub fn line(step: &IR) -> StepLine {
 
 fn kind_and_options(step: &IR) -> (u8, [u8; 3]) {
     match step {
-        IR::Scan | IR::DataFrameScan => (0, [0, 0, 0]),
-        IR::UnoptimizedDispatch { .. } => (1, [0, 0, 0]),
+        IR::Scan | IR::DataFrameScan => (kind::SCAN, [0, 0, 0]),
+        IR::UnoptimizedDispatch { .. } => (kind::UNOPTIMIZED_DISPATCH, [0, 0, 0]),
         IR::Sink { payload, .. } => {
             let partitioned = matches!(payload, SinkTypeIR::Partitioned(_));
-            (2, [payload.maintain_order().into(), partitioned.into(), 0])
+            (kind::SINK, [payload.maintain_order().into(), partitioned.into(), 0])
         },
-        IR::Select { .. } => (3, [0, 0, 0]),
-        IR::HStack { schema, .. } => (4, [schema.len() as u8, 0, 0]),
-        IR::Sort { slice, sort_options, .. } => (5, [sort_options.maintain_order.into(), slice.is_some().into(), 0]),
-        IR::Filter { .. } => (6, [0, 0, 0]),
+        IR::Select { .. } => (kind::SELECT, [0, 0, 0]),
+        IR::HStack { schema, .. } => (kind::HSTACK, [schema.len() as u8, 0, 0]),
+        IR::Sort { slice, sort_options, .. } => {
+            (kind::SORT, [sort_options.maintain_order.into(), slice.is_some().into(), 0])
+        },
+        IR::Filter { .. } => (kind::FILTER, [0, 0, 0]),
         IR::GroupBy { maintain_order, options, apply, .. } => {
             let apply = if apply.is_some() { GROUP_BY_APPLY } else { 0 };
             let dynamic = if options.is_dynamic() { GROUP_BY_DYNAMIC } else { 0 };
             let rolling = if options.is_rolling() { GROUP_BY_ROLLING } else { 0 };
-            (7, [(*maintain_order).into(), apply + dynamic + rolling, 0])
+            (kind::GROUP_BY, [(*maintain_order).into(), apply + dynamic + rolling, 0])
         },
         IR::Distinct { options, .. } => {
             let keep = place(&KEEP, options.keep_strategy);
-            (8, [options.maintain_order.into(), options.slice.is_some().into(), keep])
+            (kind::DISTINCT, [options.maintain_order.into(), options.slice.is_some().into(), keep])
         },
         IR::Join { options, .. } => {
             let how = match options.args.how {
@@ -165,17 +170,17 @@ fn kind_and_options(step: &IR) -> (u8, [u8; 3]) {
                 JoinType::AsOf(_) => 3,
                 _ => 0,
             };
-            (9, [how, place(&MAINTAIN_JOIN, options.args.maintain_order), 0])
+            (kind::JOIN, [how, place(&MAINTAIN_JOIN, options.args.maintain_order), 0])
         },
-        IR::Gather { .. } => (10, [0, 0, 0]),
-        IR::Union { options, .. } => (11, [options.maintain_order.into(), options.slice.is_some().into(), 0]),
-        IR::MergeSorted { maintain_order, .. } => (12, [(*maintain_order).into(), 0, 0]),
-        IR::MapFunction { function, .. } => (13, [function_number(function), 0, 0]),
-        IR::HConcat { .. } => (14, [0, 0, 0]),
-        IR::Slice { .. } => (15, [0, 0, 0]),
-        IR::ExtContext { .. } => (16, [0, 0, 0]),
-        IR::SimpleProjection { .. } => (17, [0, 0, 0]),
-        IR::Cache { id, .. } => (18, [id.0, 0, 0]),
+        IR::Gather { .. } => (kind::GATHER, [0, 0, 0]),
+        IR::Union { options, .. } => (kind::UNION, [options.maintain_order.into(), options.slice.is_some().into(), 0]),
+        IR::MergeSorted { maintain_order, .. } => (kind::MERGE_SORTED, [(*maintain_order).into(), 0, 0]),
+        IR::MapFunction { function, .. } => (kind::MAP_FUNCTION, [function_number(function), 0, 0]),
+        IR::HConcat { .. } => (kind::HCONCAT, [0, 0, 0]),
+        IR::Slice { .. } => (kind::SLICE, [0, 0, 0]),
+        IR::ExtContext { .. } => (kind::EXT_CONTEXT, [0, 0, 0]),
+        IR::SimpleProjection { .. } => (kind::SIMPLE_PROJECTION, [0, 0, 0]),
+        IR::Cache { id, .. } => (kind::CACHE, [id.0, 0, 0]),
         IR::SinkMultiple { .. } | IR::Invalid => unreachable!("no line gives {step:?}"),
     }
 }

@@ -1,10 +1,8 @@
 //! Which options and counts a line of each kind may have.
 use std::ops::RangeInclusive;
 
+use crate::kinds::{expr, step};
 use crate::sheet::{ExprLine, StepLine};
-
-pub const EXPR_KINDS: u8 = 25;
-pub const STEP_KINDS: u8 = 19;
 
 /// A row of the table of records: the option's limit, the least and the most children.
 pub struct ExprRow {
@@ -17,7 +15,7 @@ const fn row(option: u8, least: usize, most: usize) -> ExprRow {
     ExprRow { option, least, most }
 }
 
-pub const EXPR_ROWS: [ExprRow; EXPR_KINDS as usize] = [
+pub const EXPR_ROWS: [ExprRow; expr::COUNT as usize] = [
     row(0, 0, 0),  // 0 Column
     row(0, 0, 0),  // 1 Literal
     row(0, 0, 0),  // 2 Element
@@ -45,13 +43,11 @@ pub const EXPR_ROWS: [ExprRow; EXPR_KINDS as usize] = [
     row(0, 1, 1),  // 24 AggGroups
 ];
 
-pub const OVER: u8 = 16;
-
 pub fn expr_fits(line: &ExprLine) -> bool {
     let Some(row) = EXPR_ROWS.get(usize::from(line.kind)) else {
         return false;
     };
-    let order_by = line.kind == OVER && line.option == 1;
+    let order_by = line.kind == expr::OVER && line.option == 1;
     let least = if order_by { 2 } else { row.least };
 
     line.scalar <= 1
@@ -74,25 +70,25 @@ pub fn step_row(kind: u8, b: u8) -> Option<StepRow> {
     let any = || 0..=8;
 
     let (options, counts) = match kind {
-        0 => ([0, 0, 0], [none(), none(), none()]),         // Scan
-        1 => ([0, 0, 0], [any(), none(), none()]),          // UnoptimizedDispatch
-        2 if b == 1 => ([1, 1, 0], [one(), any(), none()]), // Sink, partitioned
-        2 => ([1, 1, 0], [one(), none(), none()]),          // Sink
-        3 => ([0, 0, 0], [one(), any(), none()]),           // Select
-        4 => ([255, 0, 0], [one(), any(), none()]),         // HStack
-        5 => ([1, 1, 0], [one(), any(), none()]),           // Sort
-        6 => ([0, 0, 0], [one(), one(), none()]),           // Filter
-        7 => ([1, 7, 0], [one(), any(), any()]),            // GroupBy
-        8 => ([1, 1, 3], [one(), none(), none()]),          // Distinct
-        9 => ([3, 4, 0], [two(), any(), any()]),            // Join
-        10 => ([0, 0, 0], [two(), none(), none()]),         // Gather
-        11 => ([1, 1, 0], [any(), none(), none()]),         // Union
-        12 => ([1, 0, 0], [two(), none(), none()]),         // MergeSorted
-        13 => ([7, 0, 0], [one(), none(), none()]),         // MapFunction
-        14 => ([0, 0, 0], [any(), none(), none()]),         // HConcat
-        15 | 17 => ([0, 0, 0], [one(), none(), none()]),    // Slice, SimpleProjection
-        16 => ([0, 0, 0], [1..=8, none(), none()]),         // ExtContext
-        18 => ([255, 0, 0], [one(), none(), none()]),       // Cache
+        step::SCAN => ([0, 0, 0], [none(), none(), none()]),
+        step::UNOPTIMIZED_DISPATCH => ([0, 0, 0], [any(), none(), none()]),
+        step::SINK if b == 1 => ([1, 1, 0], [one(), any(), none()]),
+        step::SINK => ([1, 1, 0], [one(), none(), none()]),
+        step::SELECT => ([0, 0, 0], [one(), any(), none()]),
+        step::HSTACK => ([255, 0, 0], [one(), any(), none()]),
+        step::SORT => ([1, 1, 0], [one(), any(), none()]),
+        step::FILTER => ([0, 0, 0], [one(), one(), none()]),
+        step::GROUP_BY => ([1, 7, 0], [one(), any(), any()]),
+        step::DISTINCT => ([1, 1, 3], [one(), none(), none()]),
+        step::JOIN => ([3, 4, 0], [two(), any(), any()]),
+        step::GATHER => ([0, 0, 0], [two(), none(), none()]),
+        step::UNION => ([1, 1, 0], [any(), none(), none()]),
+        step::MERGE_SORTED => ([1, 0, 0], [two(), none(), none()]),
+        step::MAP_FUNCTION => ([7, 0, 0], [one(), none(), none()]),
+        step::HCONCAT => ([0, 0, 0], [any(), none(), none()]),
+        step::SLICE | step::SIMPLE_PROJECTION => ([0, 0, 0], [one(), none(), none()]),
+        step::EXT_CONTEXT => ([0, 0, 0], [1..=8, none(), none()]),
+        step::CACHE => ([255, 0, 0], [one(), none(), none()]),
         _ => return None,
     };
 

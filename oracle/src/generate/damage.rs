@@ -1,17 +1,13 @@
 //! A valid sheet with one or two faults put in, each aimed at a refusal.
 use super::noise::harm;
 use super::random::Random;
-use super::trees::{FUNCTION, STRUCT_EVAL, STRUCT_FIELD};
 use super::valid;
 use crate::LONGEST_SHEET;
+use crate::kinds::expr::{FUNCTION, STRUCT_EVAL, STRUCT_FIELD};
+use crate::kinds::step::{self, CACHE, GROUP_BY, JOIN, SINK};
 use crate::reading::{MOST_EXPRS, MOST_STEPS};
 use crate::sheet::{Sheet, StepLine, write_line};
 use crate::tables::{EXPR_ROWS, step_row};
-
-const SINK: u8 = 2;
-const GROUP_BY: u8 = 7;
-const JOIN: u8 = 9;
-const CACHE: u8 = 18;
 
 /// A line whose numbers may be out of all bounds.
 #[derive(Clone)]
@@ -135,7 +131,7 @@ fn bad_use(random: &mut Random, sheet: &mut Sheet) {
             // A SimpleProjection in place of the last Sink is named by none.
             if let Some(sink) = sheet.steps.iter_mut().rfind(|line| line.kind == SINK) {
                 let inputs = std::mem::take(&mut sink.inputs);
-                *sink = StepLine { kind: 17, inputs, ..StepLine::default() };
+                *sink = StepLine { kind: step::SIMPLE_PROJECTION, inputs, ..StepLine::default() };
             }
         },
         3 if sheet.exprs.len() > 1 => {

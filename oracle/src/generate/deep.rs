@@ -1,14 +1,11 @@
 //! Long chains of steps, high trees, and caches named many times one above the other.
 use super::maker::{Maker, Shape};
 use super::random::Random;
-use super::trees::{COLUMN, FUNCTION, LITERAL, STRUCT_EVAL, STRUCT_FIELD};
+use crate::kinds::expr::{COLUMN, FUNCTION, LITERAL, OVER, STRUCT_EVAL, STRUCT_FIELD};
+use crate::kinds::{expr, step};
 use crate::reading::{MOST_EXPRS, MOST_STEPS};
 use crate::sheet::Sheet;
-use crate::tables::{EXPR_KINDS, EXPR_ROWS, OVER};
-
-const SCAN: u8 = 0;
-const SINK: u8 = 2;
-const CACHE: u8 = 18;
+use crate::tables::EXPR_ROWS;
 
 pub fn deep(random: &mut Random) -> Sheet {
     let largest_tree = random.between(1, 4);
@@ -26,31 +23,43 @@ pub fn deep(random: &mut Random) -> Sheet {
 impl Maker<'_> {
     /// One tree as high as the sheet allows, in a list of one step.
     fn high_tree(&mut self) {
+        const KINDS: [u8; 10] = [
+            step::SELECT,
+            step::SELECT,
+            step::SELECT,
+            step::HSTACK,
+            step::SORT,
+            step::FILTER,
+            step::GROUP_BY,
+            step::GROUP_BY,
+            step::SINK,
+            step::JOIN,
+        ];
         let size = if self.random.chance(30) { MOST_EXPRS } else { self.random.between(20, MOST_EXPRS - 1) };
-        let kind = *self.random.pick(&[3, 3, 3, 4, 5, 6, 7, 7, 2, 9]);
+        let kind = *self.random.pick(&KINDS);
         // An agg needs room for an Implode, so that the tree is one record lower.
-        let as_agg = kind == 7 && self.random.chance(50);
+        let as_agg = kind == step::GROUP_BY && self.random.chance(50);
         let root = self.spine(size.min(MOST_EXPRS - usize::from(as_agg)));
         self.room = 0;
 
-        let scan = self.add_step(SCAN, vec![]);
+        let scan = self.add_step(step::SCAN, vec![]);
         let mut inputs = vec![scan];
-        if kind == 9 {
-            inputs.push(self.add_step(SCAN, vec![]));
+        if kind == step::JOIN {
+            inputs.push(self.add_step(step::SCAN, vec![]));
         }
         let step = self.add_step(kind, inputs);
         let line = &mut self.sheet.steps[usize::from(step)];
         line.kind = kind;
         match kind {
-            7 if as_agg => line.more_exprs = vec![root],
-            2 => {
+            step::GROUP_BY if as_agg => line.more_exprs = vec![root],
+            step::SINK => {
                 line.b = 1;
                 line.exprs = vec![root];
                 return;
             },
             _ => line.exprs = vec![root],
         }
-        self.add_step(SINK, vec![step]);
+        self.add_step(step::SINK, vec![step]);
     }
 
     /// A tree of `size` records whose height is nearly that, of a few kinds only.
@@ -63,7 +72,7 @@ impl Maker<'_> {
             let left = size - self.sheet.exprs.len();
             let fitting: Vec<(u8, u8)> =
                 kinds.iter().copied().filter(|&(kind, option)| least(kind, option) <= left).collect();
-            let (kind, option) = if fitting.is_empty() { (7, 0) } else { *self.random.pick(&fitting) };
+            let (kind, option) = if fitting.is_empty() { (expr::CAST, 0) } else { *self.random.pick(&fitting) };
 
             let count = least(kind, option);
             let spine = self.random.below(count);
@@ -87,32 +96,44 @@ impl Maker<'_> {
         if self.random.chance(35) {
             return (FUNCTION, self.random.below(64) as u8);
         }
-        let kinds: Vec<u8> = (0..EXPR_KINDS).filter(|&kind| EXPR_ROWS[usize::from(kind)].most > 0).collect();
+        let kinds: Vec<u8> = (0..expr::COUNT).filter(|&kind| EXPR_ROWS[usize::from(kind)].most > 0).collect();
         let kind = *self.random.pick(&kinds);
         (kind, self.random.between(0, usize::from(EXPR_ROWS[usize::from(kind)].option)) as u8)
     }
 
     /// Steps of one input, one upon the other, of a few kinds only, often sorts.
     fn long_chain(&mut self) {
-        const KINDS: [u8; 11] = [5, 5, 3, 4, 6, 7, 8, 13, 15, 17, 18];
+        const KINDS: [u8; 11] = [
+            step::SORT,
+            step::SORT,
+            step::SELECT,
+            step::HSTACK,
+            step::FILTER,
+            step::GROUP_BY,
+            step::DISTINCT,
+            step::MAP_FUNCTION,
+            step::SLICE,
+            step::SIMPLE_PROJECTION,
+            step::CACHE,
+        ];
         let kinds: Vec<u8> = (0..self.random.between(1, 4)).map(|_| *self.random.pick(&KINDS)).collect();
 
-        self.add_step(SCAN, vec![]);
+        self.add_step(step::SCAN, vec![]);
         while self.sheet.steps.len() < MOST_STEPS - 1 {
             let input = self.open.remove(0);
             let kind = *self.random.pick(&kinds);
             self.add_step(kind, vec![input]);
         }
         let input = self.open.remove(0);
-        self.add_step(SINK, vec![input]);
+        self.add_step(step::SINK, vec![input]);
     }
 
     /// One cache that every later step names with all the inputs it has left: the most edges that a sheet can have.
     fn cache_fan(&mut self) {
-        const KINDS: [u8; 4] = [1, 11, 14, 16];
+        const KINDS: [u8; 4] = [step::UNOPTIMIZED_DISPATCH, step::UNION, step::HCONCAT, step::EXT_CONTEXT];
 
-        let scan = self.add_step(SCAN, vec![]);
-        let cache = self.add_step(CACHE, vec![scan]);
+        let scan = self.add_step(step::SCAN, vec![]);
+        let cache = self.add_step(step::CACHE, vec![scan]);
         let mut top = cache;
         while self.sheet.steps.len() < MOST_STEPS - 1 {
             let mut inputs = vec![cache; 8];
@@ -120,28 +141,43 @@ impl Maker<'_> {
             let kind = *self.random.pick(&KINDS);
             top = self.add_step(kind, inputs);
         }
-        self.add_step(SINK, vec![top]);
+        self.add_step(step::SINK, vec![top]);
     }
 
     /// A cache, a step that names it up to eight times, a cache of that, and so on; Sinks on some of the caches.
     fn cache_ladder(&mut self) {
-        const KINDS: [u8; 10] = [11, 11, 14, 14, 16, 1, 9, 10, 12, 12];
+        const KINDS: [u8; 10] = [
+            step::UNION,
+            step::UNION,
+            step::HCONCAT,
+            step::HCONCAT,
+            step::EXT_CONTEXT,
+            step::UNOPTIMIZED_DISPATCH,
+            step::JOIN,
+            step::GATHER,
+            step::MERGE_SORTED,
+            step::MERGE_SORTED,
+        ];
 
-        self.add_step(SCAN, vec![]);
+        self.add_step(step::SCAN, vec![]);
         while self.sheet.steps.len() < MOST_STEPS - 6 {
             let below = self.open.remove(0);
-            let sorted = if self.random.chance(40) { self.add_step(5, vec![below]) } else { below };
-            let cache = self.add_step(CACHE, vec![sorted]);
+            let sorted = if self.random.chance(40) { self.add_step(step::SORT, vec![below]) } else { below };
+            let cache = self.add_step(step::CACHE, vec![sorted]);
             if self.random.chance(30) {
-                self.add_step(SINK, vec![cache]);
+                self.add_step(step::SINK, vec![cache]);
             }
             let kind = *self.random.pick(&KINDS);
-            let count = if matches!(kind, 9 | 10 | 12) { 2 } else { self.random.between(1, 8) };
+            let count = if matches!(kind, step::JOIN | step::GATHER | step::MERGE_SORTED) {
+                2
+            } else {
+                self.random.between(1, 8)
+            };
             self.open.clear();
             self.add_step(kind, vec![cache; count]);
         }
         let input = self.open.remove(0);
-        self.add_step(SINK, vec![input]);
+        self.add_step(step::SINK, vec![input]);
     }
 }
 

@@ -1,21 +1,12 @@
 //! Plans: steps laid one upon the other until all ends in Sinks.
 use super::maker::Maker;
 use super::trees::{ANYWHERE, KEY, Place};
+use crate::kinds::expr;
+use crate::kinds::step::{self, *};
 use crate::sheet::{Sheet, StepLine};
-use crate::tables::STEP_KINDS;
-
-const SCAN: u8 = 0;
-const SINK: u8 = 2;
-const SELECT: u8 = 3;
-const HSTACK: u8 = 4;
-const SORT: u8 = 5;
-const FILTER: u8 = 6;
-const GROUP_BY: u8 = 7;
-const JOIN: u8 = 9;
-const CACHE: u8 = 18;
 
 /// How often each kind comes.
-const WEIGHTS: [usize; STEP_KINDS as usize] = [
+const WEIGHTS: [usize; step::COUNT as usize] = [
     16, // 0 Scan
     2,  // 1 UnoptimizedDispatch
     3,  // 2 Sink
@@ -59,7 +50,8 @@ impl Maker<'_> {
             let step = *self.random.pick(&with_exprs);
             let entry = self.random.below(self.sheet.steps[step].exprs.len());
             let wrapped = self.sheet.steps[step].exprs[entry];
-            let (kind, option) = *self.random.pick(&[(7, 0), (19, 3), (19, 36), (22, 0)]);
+            let (kind, option) =
+                *self.random.pick(&[(expr::CAST, 0), (expr::FUNCTION, 3), (expr::FUNCTION, 36), (expr::MIN, 0)]);
             self.sheet.steps[step].exprs[entry] = self.add_expr(kind, option, vec![wrapped]);
         }
 
@@ -103,11 +95,11 @@ impl Maker<'_> {
                 SCAN => continue,
                 SINK if self.open.len() > 1 || !self.caches.is_empty() => vec![self.take_input()],
                 SINK => continue,
-                9 | 10 | 12 if self.open.len() > 1 || !self.caches.is_empty() => self.take_inputs(2),
-                9 | 10 | 12 => continue,
-                1 | 11 | 14 | 16 => {
+                JOIN | GATHER | MERGE_SORTED if self.open.len() > 1 || !self.caches.is_empty() => self.take_inputs(2),
+                JOIN | GATHER | MERGE_SORTED => continue,
+                UNOPTIMIZED_DISPATCH | UNION | HCONCAT | EXT_CONTEXT => {
                     let count = *self.random.pick(&[0, 1, 2, 2, 3, 3, 4, 5, 8]);
-                    let least = usize::from(kind == 16 || !room_for_two);
+                    let least = usize::from(kind == EXT_CONTEXT || !room_for_two);
                     self.take_inputs(count.max(least))
                 },
                 _ => vec![if room_for_two { self.take_input() } else { self.take_open() }],
@@ -184,11 +176,11 @@ impl Maker<'_> {
             SINK => (random.below(2), usize::from(random.chance(30)), 0),
             SORT => (random.below(2), usize::from(random.chance(20)), 0),
             GROUP_BY => (random.below(2), if random.chance(60) { 0 } else { random.below(8) }, 0),
-            8 => (random.below(2), usize::from(random.chance(30)), random.below(4)),
+            DISTINCT => (random.below(2), usize::from(random.chance(30)), random.below(4)),
             JOIN => (random.below(4), random.below(5), 0),
-            11 => (random.below(2), usize::from(random.chance(35)), 0),
-            12 => (random.below(2), 0, 0),
-            13 => (random.below(8), 0, 0),
+            UNION => (random.below(2), usize::from(random.chance(35)), 0),
+            MERGE_SORTED => (random.below(2), 0, 0),
+            MAP_FUNCTION => (random.below(8), 0, 0),
             CACHE => (usize::from(self.free_id()), 0, 0),
             _ => (0, 0, 0),
         };

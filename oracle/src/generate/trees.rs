@@ -1,8 +1,9 @@
 //! Expression trees.
 use super::maker::Maker;
 use super::random::Random;
+use crate::kinds::expr::{self, *};
 use crate::sheet::ExprLine;
-use crate::tables::{EXPR_KINDS, EXPR_ROWS, OVER};
+use crate::tables::EXPR_ROWS;
 
 /// Where a tree stands, as far as it bears on what may stand there.
 #[derive(Clone, Copy)]
@@ -28,7 +29,7 @@ pub const ANYWHERE: Place = Place { wish: Wish::Any, field: false, element: fals
 pub const KEY: Place = Place { wish: Wish::Key, field: false, element: false };
 
 /// How often each kind comes, for each wish.
-const WEIGHTS: [[usize; 3]; EXPR_KINDS as usize] = [
+const WEIGHTS: [[usize; 3]; expr::COUNT as usize] = [
     [30, 30, 30], // 0 Column
     [12, 10, 10], // 1 Literal
     [3, 0, 1],    // 2 Element
@@ -55,18 +56,6 @@ const WEIGHTS: [[usize; 3]; EXPR_KINDS as usize] = [
     [8, 1, 1],    // 23 Implode
     [3, 0, 0],    // 24 AggGroups
 ];
-
-pub const COLUMN: u8 = 0;
-pub const LITERAL: u8 = 1;
-const ELEMENT: u8 = 2;
-pub const STRUCT_FIELD: u8 = 3;
-const LEN: u8 = 4;
-const SORT: u8 = 9;
-const EVAL: u8 = 14;
-pub const STRUCT_EVAL: u8 = 15;
-pub const FUNCTION: u8 = 19;
-const FIRST: u8 = 21;
-const MIN: u8 = 22;
 
 impl Maker<'_> {
     /// Adds a line above children that are already there, with plausible S and L.
@@ -124,7 +113,7 @@ impl Maker<'_> {
     }
 
     fn kind_for(&mut self, size: usize, place: Place) -> u8 {
-        let mut weights = [0; EXPR_KINDS as usize];
+        let mut weights = [0; expr::COUNT as usize];
         for (kind, row) in EXPR_ROWS.iter().enumerate() {
             let fits = if size == 1 { row.least == 0 } else { row.most > 0 && row.least < size };
             if fits {
@@ -195,11 +184,11 @@ fn facts(kind: u8, option: u8, children: &[&ExprLine]) -> (bool, bool) {
     match kind {
         COLUMN | ELEMENT | STRUCT_FIELD => (false, true),
         LITERAL | LEN => (true, false),
-        5..=7 => (children.iter().all(scalar), children.iter().any(length_preserving)),
-        8 | 11 | 13 | 24 => (false, false),
-        SORT | 10 | EVAL | STRUCT_EVAL => (children.iter().all(scalar), first_keeps_length),
-        12 => (option == 1, false),
-        OVER | 17 => (false, true),
+        BINARY_EXPR | TERNARY | CAST => (children.iter().all(scalar), children.iter().any(length_preserving)),
+        EXPLODE | FILTER | SLICE | AGG_GROUPS => (false, false),
+        SORT | SORT_BY | EVAL | STRUCT_EVAL => (children.iter().all(scalar), first_keeps_length),
+        GATHER => (option == 1, false),
+        OVER | ROLLING => (false, true),
         FUNCTION => (option & 16 != 0, option & 2 != 0),
         _ => (true, false),
     }

@@ -1,7 +1,8 @@
 //! The generator: what each family brings, and what holds of every finished sheet.
 use oracle::generate::share::Shares;
 use oracle::generate::{FAMILIES, Family, sheet};
-use oracle::tables::{EXPR_ROWS, STEP_KINDS, step_row};
+use oracle::kinds::step;
+use oracle::tables::{EXPR_ROWS, step_row};
 
 use crate::lines;
 
@@ -24,7 +25,7 @@ fn valid_sheets_bring_every_kind_and_option() {
             assert!(shares.has_expr(kind, option), "E kind {kind} option {option}");
         }
     }
-    for kind in 0..STEP_KINDS {
+    for kind in 0..step::COUNT {
         for (option, limit) in step_row(kind, 0).unwrap().options.into_iter().enumerate() {
             // Any number of columns and any id comes sooner or later; a few are enough here.
             let limit = if limit == 255 { 0 } else { limit };
