@@ -1,0 +1,2 @@
+//! The names that the ported files take from `crate::prelude`.
+pub use crate::plans::{AExpr, IR};
