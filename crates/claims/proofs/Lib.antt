@@ -3,3 +3,7 @@ pub mod Booleans
 pub mod Taken
 pub mod Walks
 pub mod Visits
+pub mod Counts
+pub mod StepTable
+pub mod Plans
+pub mod CacheIds
