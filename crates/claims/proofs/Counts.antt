@@ -204,3 +204,6 @@ times-of n l m = counted-in (eqb n) l n m (eqb-refl n)
 
 pub stands-in : (n : ℕ) (l : List ℕ) → 1 ≤ times n l → List·Memᴰ n l
 stands-in n l h = let (x, m, e) = some-counted (eqb n) l h in subst (λ y. List·Memᴰ y l) (sym (eqb→eq n x e)) m
+
+pub mem-reverse : (n : ℕ) (l : List ℕ) → List·Memᴰ n (reverse l) → List·Memᴰ n l
+mem-reverse n l m = stands-in n l (omega (arith, times-of n (reverse l) m, sum-reverse (λ x. if eqb n x then 1 else 0) l))

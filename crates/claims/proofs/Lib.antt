@@ -7,3 +7,6 @@ pub mod Counts
 pub mod StepTable
 pub mod Plans
 pub mod CacheIds
+pub mod Reached
+pub mod Hits
+pub mod Edges
