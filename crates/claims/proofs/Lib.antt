@@ -10,3 +10,4 @@ pub mod CacheIds
 pub mod Reached
 pub mod Hits
 pub mod Edges
+pub mod Places

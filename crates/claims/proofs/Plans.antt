@@ -95,6 +95,11 @@ module _ (ps : List Step) (plan : Plan ps) where
   pub cache-named : (n : ℕ) → T (is-cache ps n) → times n (sinks ps) ≡ 0
   cache-named n t = plan .roots n ∙ ap (λ (k : IR). if same-ir k IR.Sink then 1 else 0) (same-kind (step-at ps n .kind) IR.Cache t)
 
+  pub cache-used : (n : ℕ) → T (is-cache ps n) → 1 ≤ times n (named ps)
+  cache-used n t =
+      let there = in-range ps n (eqb→eq (ir-number (step-at ps n .kind)) 18 t) in
+      omega (arith, plan .rooted n there, cache-named n t)
+
 -- Of a well-formed sheet --------------------------------------------------------------------------------------------------------
 
 module _ (sh : Sheet) (w : WellFormed sh) where
