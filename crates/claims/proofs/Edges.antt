@@ -7,7 +7,7 @@ use native.Mathlib.Nat.{not-suc-le-zero}
 use native.Mathlib.Decide.{decLt}
 use mathlib.Core.Bool.{Bool, true, false, _&&_, _||_}
 use mathlib.Core.Option.{Option, none, some}
-use mathlib.Core.List.{List, [], _∷_, map}
+use mathlib.Core.List.{List, [], _∷_, map, List·Memᴰ}
 use lib.Dec.{T, eqb, eqb→eq, eqb-refl}
 use lib.ListN.{length, getD, List·getD-eq-default}
 use Rattle.plan.specs.Lists.{if_then_else_, select, sum}
@@ -17,7 +17,7 @@ use Rattle.plan.specs.Visit.{Run, Loosened, simplify-ir-node-orders, unlink-nod
 use Rattle.plan.specs.Walks.{walk}
 use Rattle.claims.specs.Demand3.{leaving-among, Unordered-at}
 use Rattle.claims.proofs.Walks.{two-ways, walk-keeps}
-use Rattle.claims.proofs.Counts.{false-of, T-of, count}
+use Rattle.claims.proofs.Counts.{false-of, T-of, mem-at, count}
 
 abbrev pub edge-at : ℕ → Run → Edge
 edge-at k r = getD (r .edges) k no-edge
@@ -78,6 +78,11 @@ leaving-out n (d ∷ ds) h = by (is-out-of n d) refl h (λ k. leaving-out n ds k
         → T (is-out-of n (getD (d ∷ ds) (elim b [ true ↦ 0 | false ↦ suc (leaving-among n ds) ]) no-edge))
     by true e h rec = T-of (is-out-of n d) e
     by false e h rec = rec (omega arith)
+
+pub out-edge-there : (n : ℕ) (ds : List Edge) → 1 ≤ outs n ds → List·Memᴰ (out-edge n ds) ds × T (is-out-of n (out-edge n ds))
+out-edge-there n ds h =
+    let k = leaving-there n ds h in
+    subst (λ (d : Edge). List·Memᴰ d ds × T (is-out-of n d)) (out-edge-at n ds) (mem-at ds (leaving-among n ds) no-edge k, leaving-out n ds k)
 
 -- Relinking: an edge into the removed sort, the edge that left it, and any other --------------------------------------------------
 

@@ -11,3 +11,5 @@ pub mod Reached
 pub mod Hits
 pub mod Edges
 pub mod Places
+pub mod Stays
+pub mod Links
