@@ -13,3 +13,5 @@ pub mod Edges
 pub mod Places
 pub mod Stays
 pub mod Links
+pub mod Starts
+pub mod NoCacheAfter

@@ -23,11 +23,11 @@ use Rattle.claims.proofs.Hits.{hits-named}
 use Rattle.claims.proofs.Edges.{outs, intos, same-some}
 
 -- have n's inputs followed, once `past` is gone through? A Cache's follow at its last place
-unfoldable pub opened : List Step → List ℕ → ℕ → Bool
+opened : List Step → List ℕ → ℕ → Bool
 opened ps past n = if is-cache ps n then leb (times n (named ps)) (times n past) else leb 1 (times n past)
 
 -- the places gone through and those that wait: the roots, and the inputs of the steps opened
-abbrev pub Counted : List Step → List ℕ → List ℕ → Type 0
+abbrev Counted : List Step → List ℕ → List ℕ → Type 0
 Counted ps past waiting = (w : ℕ → ℕ) → sum w past + sum w waiting ≡ sum w (sinks ps) + followed w ps (opened ps past)
 
 abbrev follow : List Step → List ℕ → ℕ → List ℕ
@@ -97,16 +97,16 @@ Later n c (x ∷ past) = (x ≡ n) ⊎ ((x ≢ c) × Later n c past)
 abbrev pub Made : List Step → Edge → Type 0
 Made ps d = let inputs = step-at ps (d .consumer) .inputs in (d .slot < length inputs) × (d .producer ≡ some (getD inputs (d .slot) 0))
 
-pub record Placed (ps : List Step) (past waiting : List ℕ) (d : Edge) : Type 0 where
-  pub closed : T (opened ps past (d .consumer))
-  pub after : (m : ℕ) → d .producer ≡ some m → List·Memᴰ m waiting ⊎ Later m (d .consumer) past
-  pub made : Made ps d
+record Placed (ps : List Step) (past waiting : List ℕ) (d : Edge) : Type 0 where
+  closed : T (opened ps past (d .consumer))
+  after : (m : ℕ) → d .producer ≡ some m → List·Memᴰ m waiting ⊎ Later m (d .consumer) past
+  made : Made ps d
 
 -- of the edges made so far
-pub record Grown (ps : List Step) (past waiting : List ℕ) (es : List Edge) : Type 0 where
-  pub placed : (d : Edge) → List·Memᴰ d es → Placed ps past waiting d
-  pub leaving : (n : ℕ) → times n (sinks ps) + outs n es ≡ times n past + times n waiting
-  pub entering : (n : ℕ) → T (not (is-cache ps n)) → length (step-at ps n .inputs) ≡ 1 → intos n es ≡ times n past
+record Grown (ps : List Step) (past waiting : List ℕ) (es : List Edge) : Type 0 where
+  placed : (d : Edge) → List·Memᴰ d es → Placed ps past waiting d
+  leaving : (n : ℕ) → times n (sinks ps) + outs n es ≡ times n past + times n waiting
+  entering : (n : ℕ) → T (not (is-cache ps n)) → length (step-at ps n .inputs) ≡ 1 → intos n es ≡ times n past
 
 -- the edges made for a step's inputs
 abbrev made-for : ℕ → ℕ → List ℕ → List Edge
@@ -142,7 +142,7 @@ intos-made n m k (x ∷ ms) = by (eqb m n) (intos-made n m (suc k) ms)
     by false e = omega arith
 
 -- p: the visiting list, the last place first
-abbrev pub Result : List Step → List ℕ × List Edge → Type 0
+abbrev Result : List Step → List ℕ × List Edge → Type 0
 Result ps (l, ds) = (p : List ℕ) × (l ≡ reverse p) × Counted ps p [] × Grown ps p [] ds
 
 module _ (ps : List Step) (plan : Plan ps) where
@@ -242,20 +242,43 @@ module _ (ps : List Step) (plan : Plan ps) where
       by true u = false-of (leb (times n (named ps)) 0) (λ k. let z = leb→le (times n (named ps)) 0 k in omega (arith, u tt))
       by false u = refl
 
-  pub graph-ordered : Result ps (graph ps)
+  result : Result ps (graph ps)
   unfolding graph sum
-  graph-ordered =
+  result =
       ordered (most-places ps) [] (sinks ps) [] (omega arith) (λ w. omega (arith, followed-none w ps (opened ps []) none-opened))
       (root-there ps plan) (record { placed = λ d i. absurd (List·Memᴰ·not-nil i); leaving = λ n. omega arith; entering = λ n h l. refl })
 
+-- The visiting list and the edges ---------------------------------------------------------------------------------------------------------
+
+pub record Ordered (ps : List Step) (places : List ℕ) (es : List Edge) : Type 0 where
+  pub back : List ℕ  -- the places, the last one first
+  pub reversed : places ≡ reverse back
   -- every root and every naming has a place
-  pub placed-all : (w : ℕ → ℕ) → sum w (graph ps .0) ≡ sum w (sinks ps) + sum w (named ps)
-  unfolding opened sum
-  placed-all w =
-      let (p, i, c, g) = graph-ordered in
-      rw i (sum-reverse w p ∙ all-placed ps plan p (opened ps p) (λ v. omega (arith, c v)) (λ n l e. by n (is-cache ps n) p e (plan .rooted n l)) w)
-    where
-      by : (n : ℕ) (b : Bool) (p : List ℕ) → times n p ≡ times n (sinks ps) + times n (named ps) → 1 ≤ times n (sinks ps) + times n (named ps)
-          → T (if b then leb (times n (named ps)) (times n p) else leb 1 (times n p))
-      by n true p e r = le→leb (times n (named ps)) (times n p) (omega arith)
-      by n false p e r = le→leb 1 (times n p) (omega arith)
+  pub placed-all : (w : ℕ → ℕ) → sum w places ≡ sum w (sinks ps) + sum w (named ps)
+  pub made : (d : Edge) → List·Memᴰ d es → Made ps d
+  -- the producer stands after the consumer
+  pub after : (d : Edge) → List·Memᴰ d es → (m : ℕ) → d .producer ≡ some m → Later m (d .consumer) back
+  -- an edge for each place but a root's, and one into each place of a step with one input
+  pub leaving : (n : ℕ) → times n (sinks ps) + outs n es ≡ times n places
+  pub entering : (n : ℕ) → T (not (is-cache ps n)) → length (step-at ps n .inputs) ≡ 1 → intos n es ≡ times n places
+
+pub graph-ordered : (ps : List Step) → Plan ps → Ordered ps (graph ps .0) (graph ps .1)
+unfolding opened sum
+graph-ordered ps plan =
+    let (p, i, c, g) = result ps plan in
+    let all = all-placed ps plan p (opened ps p) (λ w. omega (arith, c w)) (λ n l e. by n (is-cache ps n) p e (plan .rooted n l)) in
+    let times-in : (n : ℕ) → times n (graph ps .0) ≡ times n p = λ n. rw i (sum-reverse (λ m. if eqb n m then 1 else 0) p) in
+    record {
+      back = p;
+      reversed = i;
+      placed-all = λ w. rw i (sum-reverse w p ∙ all w);
+      made = λ d m. g .placed d m .made;
+      after = λ d m k e. elim (g .placed d m .after k e) [ inl w ↦ absurd (List·Memᴰ·not-nil w) | inr l ↦ l ];
+      leaving = λ n. omega (arith, g .leaving n, times-in n);
+      entering = λ n h l. g .entering n h l ∙ sym (times-in n);
+    }
+  where
+    by : (n : ℕ) (b : Bool) (p : List ℕ) → times n p ≡ times n (sinks ps) + times n (named ps) → 1 ≤ times n (sinks ps) + times n (named ps)
+        → T (if b then leb (times n (named ps)) (times n p) else leb 1 (times n p))
+    by n true p e r = le→leb (times n (named ps)) (times n p) (omega arith)
+    by n false p e r = le→leb 1 (times n p) (omega arith)
