@@ -15,3 +15,5 @@ pub mod Stays
 pub mod Links
 pub mod Starts
 pub mod NoCacheAfter
+pub mod Rises
+pub mod Removals
