@@ -9,7 +9,7 @@ use mathlib.Core.List.{List, [], _∷_, _++_, map, reverse, reverse-cons, List·
 use lib.Dec.{T, eqb, eqb→eq, eqb-refl}
 use lib.ListN.{length, getD}
 use Rattle.plan.specs.Lists.{if_then_else_, select, sum, concat-map, numbered, times}
-use Rattle.claims.proofs.Booleans.{T-eq, differ}
+use Rattle.claims.proofs.Booleans.{differ}
 
 -- Tests as equations --------------------------------------------------------------------------------------------------------
 
@@ -164,14 +164,14 @@ module _ {A : Type 0} (f : A → Bool) where
   pub count-same : (g : A → Bool) (l : List A) → ((a : A) → List·Memᴰ a l → f a ≡ g a) → count f l ≡ count g l
   count-same g l h = sum-eq (λ a. if f a then 1 else 0) (λ a. if g a then 1 else 0) l (λ a m. ap (λ (b : Bool). if b then 1 else 0) (h a m))
 
-  pub length-select : (l : List A) → length (select f l) ≡ count f l
-  unfolding select sum
-  length-select [] = refl
-  length-select (x ∷ l) = by (f x) (length-select l)
+  pub select-le : (l : List A) → length (select f l) ≤ length l
+  unfolding select
+  select-le [] = omega arith
+  select-le (x ∷ l) = by (f x) (select-le l)
     where
-      by : (b : Bool) → length (select f l) ≡ count f l → length (if b then x ∷ select f l else select f l) ≡ (if b then 1 else 0) + count f l
-      by true e = omega arith
-      by false e = omega arith
+      by : (b : Bool) → length (select f l) ≤ length l → length (if b then x ∷ select f l else select f l) ≤ length (x ∷ l)
+      by true h = omega arith
+      by false h = omega arith
 
 pub count-map : {A B : Type 0} (f : B → Bool) (g : A → B) (l : List A) → count f (map g l) ≡ count (λ a. f (g a)) l
 unfolding sum

@@ -17,3 +17,4 @@ pub mod Starts
 pub mod NoCacheAfter
 pub mod Rises
 pub mod Removals
+pub mod Sizes

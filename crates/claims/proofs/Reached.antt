@@ -9,7 +9,7 @@ use mathlib.Core.Bool.{Bool, true, false}
 use mathlib.Core.List.{List, [], _∷_, List·Memᴰ}
 use lib.Dec.{T, eqb}
 use lib.ListN.{length, getD}
-use Rattle.plan.specs.Lists.{if_then_else_, sum, concat-map, numbered, times}
+use Rattle.plan.specs.Lists.{if_then_else_, sum, numbered, times}
 use Rattle.plan.specs.Sheet.{Step, no-step, step-at}
 use Rattle.plan.specs.Faults.{named}
 use Rattle.plan.specs.Graph.{sinks}

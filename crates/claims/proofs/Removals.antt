@@ -4,7 +4,7 @@ use mathlib.Core.Logic.{_⊎_, inl, inr, _↔_}
 use Prim.Native.Nat.{ℕ, _+_, _≤_, _<_}
 use native.Mathlib.Omega.{arith}
 use native.Mathlib.Decide.{decLe}
-use mathlib.Core.Bool.{Bool, true, false, _&&_, not}
+use mathlib.Core.Bool.{true, _&&_, not}
 use mathlib.Core.List.{List, [], _∷_, List·Memᴰ, List·Memᴰ·head, List·Memᴰ·tail, List·Memᴰ·not-nil, List·Memᴰ·cases-cons}
 use lib.Dec.{T, eqb}
 use lib.ListN.{length}
@@ -16,7 +16,7 @@ use Rattle.plan.specs.Graph.{Edge, graph}
 use Rattle.plan.specs.Visit.{Run, simplify-ir-node-orders, goes, unlink-node, settled, is-out-of, no-edge, out-edge}
 use Rattle.plan.specs.Walks.{walk, trace, then-all, begin, down, up}
 use Rattle.claims.specs.WellFormed.{Accepted}
-use Rattle.claims.specs.Demand3.{leaving, Unordered-at, Removed-at, Is-sort, No-slice, Cache-after, Down, Up, Removed, Edge-of, Sorts-removed}
+use Rattle.claims.specs.Demand3.{leaving, Unordered-at, Removed-at, Is-sort, No-slice, Down, Up, Removed, Edge-of, Sorts-removed}
 use Rattle.claims.proofs.Outcomes.{same-value, both-done}
 use Rattle.claims.proofs.Booleans.{and-right}
 use Rattle.claims.proofs.Taken.{well-formed}
