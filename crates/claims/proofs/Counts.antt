@@ -188,6 +188,10 @@ count-balance f g h k (x ∷ l) e = omega (arith, e x (List·Memᴰ·head refl),
 
 -- How often a number stands in a list -----------------------------------------------------------------------------------------
 
+-- the weighing of which `times n` is the sum
+abbrev pub only : ℕ → ℕ → ℕ
+only n m = if eqb n m then 1 else 0
+
 pub same-number : (n : ℕ) → eqb n n ≡ true
 same-number n = true-of (eqb n n) (eqb-refl n)
 
@@ -206,4 +210,4 @@ pub stands-in : (n : ℕ) (l : List ℕ) → 1 ≤ times n l → List·Memᴰ n 
 stands-in n l h = let (x, m, e) = some-counted (eqb n) l h in subst (λ y. List·Memᴰ y l) (sym (eqb→eq n x e)) m
 
 pub mem-reverse : (n : ℕ) (l : List ℕ) → List·Memᴰ n (reverse l) → List·Memᴰ n l
-mem-reverse n l m = stands-in n l (omega (arith, times-of n (reverse l) m, sum-reverse (λ x. if eqb n x then 1 else 0) l))
+mem-reverse n l m = stands-in n l (omega (arith, times-of n (reverse l) m, sum-reverse (only n) l))

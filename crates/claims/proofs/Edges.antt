@@ -54,7 +54,8 @@ out-edge-at n [] = refl
 out-edge-at n (d ∷ ds) = by (is-out-of n d) (out-edge-at n ds)
   where
     by : (b : Bool) → getD ds (leaving-among n ds) no-edge ≡ getD (select (is-out-of n) ds) 0 no-edge
-        → getD (d ∷ ds) (elim b [ true ↦ 0 | false ↦ suc (leaving-among n ds) ]) no-edge ≡ getD (if b then d ∷ select (is-out-of n) ds else select (is-out-of n) ds) 0 no-edge
+        → getD (d ∷ ds) (elim b [ true ↦ 0 | false ↦ suc (leaving-among n ds) ]) no-edge
+        ≡ getD (if b then d ∷ select (is-out-of n) ds else select (is-out-of n) ds) 0 no-edge
     by true e = refl
     by false e = e
 
@@ -124,7 +125,8 @@ pub record Apart (n : ℕ) (d : Edge) : Type 0 where
   pub out : is-out-of n d ≡ false
 
 -- a visit leaves alone an edge at neither of whose ends it is
-pub visit-apart : (n : ℕ) (r : Run) {r′ : Run} → simplify-ir-node-orders n r ≡ done r′ → (k : ℕ) → k < length (r .edges) → Apart n (edge-at k r) → edge-at k r′ ≡ edge-at k r
+pub visit-apart : (n : ℕ) (r : Run) {r′ : Run} → simplify-ir-node-orders n r ≡ done r′ → (k : ℕ) → k < length (r .edges)
+    → Apart n (edge-at k r) → edge-at k r′ ≡ edge-at k r
 visit-apart n r e k h a =
     let d = edge-at k r in
     visit-edge (λ (x : Edge). x ≡ d) n r e k h (λ input. rw (a .into, a .out, relinked, if_then_else_)) (λ l. same l)

@@ -16,7 +16,7 @@ use Rattle.plan.specs.Faults.{named}
 use Rattle.plan.specs.Graph.{sinks, is-cache, most-places, pushes, pop, popped, hits}
 use Rattle.claims.specs.WellFormed.{WellFormed}
 use Rattle.claims.proofs.Booleans.{T-eq}
-use Rattle.claims.proofs.Counts.{true-of, sum-append, sum-reverse, sum-ones, times-other, times-same, mem-reverse}
+use Rattle.claims.proofs.Counts.{true-of, sum-append, sum-reverse, sum-ones, times-other, times-same, mem-reverse, only}
 use Rattle.claims.proofs.Plans.{Plan, plan-of, root-there, input-there, cache-named}
 use Rattle.claims.proofs.Reached.{followed, followed-le, followed-none, followed-next, all-placed}
 
@@ -61,8 +61,7 @@ module _ (ps : List Step) (plan : Plan ps) where
       by true true f g = omega arith
       by true false f g = omega arith
       by false true f g =
-          let x : ℕ → ℕ = λ m. if eqb n m then 1 else 0 in
-          absurd (omega (arith, f tt, g tt, c x, followed-le x ps (λ m. among m met), times-same n stack))
+          absurd (omega (arith, f tt, g tt, c (only n), followed-le (only n) ps (λ m. among m met), times-same n stack))
       by false false f g = omega arith
 
   counted-next : (met stack : List ℕ) (n : ℕ) → n < length ps → Counted ps met (n ∷ stack) → Counted ps (met ++ (n ∷ [])) (reverse (pushes ps met n) ++ stack)
@@ -77,7 +76,7 @@ module _ (ps : List Step) (plan : Plan ps) where
       met′ = met ++ (n ∷ [])
 
       more : (m : ℕ) → times m met′ ≡ times m met + times m (n ∷ [])
-      more m = sum-append (λ x. if eqb m x then 1 else 0) met (n ∷ [])
+      more m = sum-append (only m) met (n ∷ [])
 
       other : (m : ℕ) → m ≢ n → among m met′ ≡ among m met
       other m k =
@@ -93,10 +92,12 @@ module _ (ps : List Step) (plan : Plan ps) where
       → Counted ps (pop f ps met stack) []
   unfolding pop sum pushes
   pop-counted zero met [] h c r = c
-  pop-counted zero met (n ∷ stack) h c r = absurd (omega (arith, c (λ _. 1), followed-le (λ _. 1) ps (λ m. among m met), sum-ones met, sum-ones (sinks ps), sum-ones (named ps)))
+  pop-counted zero met (n ∷ stack) h c r =
+      absurd (omega (arith, c (λ _. 1), followed-le (λ _. 1) ps (λ m. among m met), sum-ones met, sum-ones (sinks ps), sum-ones (named ps)))
   pop-counted (suc f) met [] h c r = c
   pop-counted (suc f) met (n ∷ stack) h c r =
-      pop-counted f (met ++ (n ∷ [])) (reverse (pushes ps met n) ++ stack) (simp length-append (omega arith)) (counted-next met stack n (r n (List·Memᴰ·head refl)) c)
+      pop-counted f (met ++ (n ∷ [])) (reverse (pushes ps met n) ++ stack) (simp length-append (omega arith))
+      (counted-next met stack n (r n (List·Memᴰ·head refl)) c)
       (λ m i.
       elim (List·Memᴰ·append-cases (reverse (pushes ps met n)) i) [
         | inl j ↦ in-range m (is-cache ps n && among n met) (mem-reverse m (pushes ps met n) j)
@@ -125,7 +126,7 @@ module _ (ps : List Step) (plan : Plan ps) where
 
   -- A cache is met as often as it is named
   pub hits-named : (n : ℕ) → T (is-cache ps n) → hits (popped ps) n ≡ times n (named ps)
-  hits-named n t = omega (arith, popped-all (λ m. if eqb n m then 1 else 0), cache-named ps plan n t)
+  hits-named n t = omega (arith, popped-all (only n), cache-named ps plan n t)
 
 -- so of every well-formed sheet
 pub met-as-named : (sh : Sheet) → WellFormed sh → (n : ℕ) → step-at (sh .steps) n .kind ≡ IR.Cache → hits (popped (sh .steps)) n ≡ times n (named (sh .steps))

@@ -14,7 +14,7 @@ use Rattle.plan.specs.declared.ir.IR.{IR}
 use Rattle.plan.specs.Lists.{if_then_else_, sum, times}
 use Rattle.plan.specs.Sheet.{Step, done, no-step, step-at}
 use Rattle.plan.specs.Graph.{Edge}
-use Rattle.plan.specs.Visit.{Run, Loosened, simplify-ir-node-orders, goes, unlink-node, one-visit, settled, ruling, loosened, relinked, is-into, is-out-of, no-edge, with-input, out-edge}
+use Rattle.plan.specs.Visit.{Run, simplify-ir-node-orders, goes, unlink-node, one-visit, settled, ruling, loosened, relinked, is-into, is-out-of, no-edge, with-input, out-edge}
 use Rattle.claims.specs.Demand3.{leaving}
 use Rattle.claims.proofs.Booleans.{differ, equal}
 use Rattle.claims.proofs.Counts.{true-of, T-of, not-both, of-map, mem-at, some-counted, only-one, count-map, count-same, count-none, count-balance, times-same, times-other, times-of}
@@ -84,10 +84,12 @@ module _ (n input : ℕ) where
           (λ i j. refl)
 
       -- out of the input: the edge into n goes, the edge out of n comes
-      relinked-input : (if is-out-of input (relinked n input d) then 1 else 0) + (if is-into n d then 1 else 0) ≡ (if is-out-of input d then 1 else 0) + (if is-out-of n d then 1 else 0)
+      relinked-input : (if is-out-of input (relinked n input d) then 1 else 0) + (if is-into n d then 1 else 0)
+          ≡ (if is-out-of input d then 1 else 0) + (if is-out-of n d then 1 else 0)
       relinked-input =
           three-ways n input
-          (λ (x : Edge). (if is-out-of input x then 1 else 0) + (if is-into n d then 1 else 0) ≡ (if is-out-of input d then 1 else 0) + (if is-out-of n d then 1 else 0)) d
+          (λ (x : Edge). (if is-out-of input x then 1 else 0) + (if is-into n d then 1 else 0)
+          ≡ (if is-out-of input d then 1 else 0) + (if is-out-of n d then 1 else 0)) d
           (λ t. rw (true-of (is-into n d) t, true-of (is-out-of input d) (is-producer input d (from-input t)), other-producer n input d (from-input t) other))
           (λ i t. rw (i, true-of (eqb input input) (eqb-refl input), other-producer input n d (producer-of n d t) (λ e. other (sym e)), true-of (is-out-of n d) t))
           (λ i j. rw (i, j))
@@ -111,29 +113,31 @@ module _ (ps : List Step) (n : ℕ) (rest : List ℕ) (r : Run) (g : Linked ps (
 
   -- A visit that settles --------------------------------------------------------------------------------------------------
 
-  abbrev x : Loosened
-  x = ruling n (one-visit r) .1
+  abbrev looser : Edge → Edge
+  looser = loosened n (ruling n (one-visit r) .1)
 
   module _ (w : goes n r ≡ false) (e : simplify-ir-node-orders n r ≡ done (settled n (one-visit r))) where
-    held-now : T (unsliced-sort (step-at ps n)) → Held n rest (map (loosened n x) (r .edges))
+    held-now : T (unsliced-sort (step-at ps n)) → Held n rest (map looser (r .edges))
     held-now t =
         let k = leaving n r in
         let d = edge-at k r in
-        let five = sort-kind (step-at ps n) t in
-        let h = leaving-there n (r .edges) (omega (arith, one-out five)) in
+        let is-sort = sort-kind (step-at ps n) t in
+        let h = leaving-there n (r .edges) (omega (arith, one-out is-sort)) in
         let o = leaving-out n (r .edges) h in
         let p = producer-of n d o in
-        let l = left-behind five d (mem-at (r .edges) k no-edge h) p in
-        let there : getD (map (loosened n x) (r .edges)) k no-edge ≡ loosened n x d = at-map (loosened n x) (r .edges) k h in
+        let l = left-behind is-sort d (mem-at (r .edges) k no-edge h) p in
+        let there : getD (map looser (r .edges)) k no-edge ≡ looser d = at-map looser (r .edges) k h in
         record {
           at = k;
           there = simp length-map h;
           leaves = rw there o;
-          ordered = rw there (still-ordered d (ap (λ (y : Edge). y .unordered) (out-edge-at n (r .edges)) ∙ stays-ordered n r (sort-now t) w) (differ (d .consumer) n (λ j. l .0 (sym j))));
+          ordered =
+              rw there (still-ordered d (ap (λ (y : Edge). y .unordered) (out-edge-at n (r .edges)) ∙ stays-ordered n r (sort-now t) w)
+              (differ (d .consumer) n (λ j. l .0 (sym j))));
           apart =
               λ m i. rw there (record {
                 into = differ (d .consumer) m (λ j. l .1 (subst (λ y. List·Memᴰ y rest) (sym j) i));
-                out = other-producer m n d p (λ j. not-later five (subst (λ y. List·Memᴰ y rest) (sym j) i));
+                out = other-producer m n d p (λ j. not-later is-sort (subst (λ y. List·Memᴰ y rest) (sym j) i));
               });
         }
       where
@@ -141,7 +145,7 @@ module _ (ps : List Step) (n : ℕ) (rest : List ℕ) (r : Run) (g : Linked ps (
         nothing true = refl
         nothing false = refl
 
-        still-ordered : (d : Edge) → d .unordered ≡ false → is-into n d ≡ false → loosened n x d .unordered ≡ false
+        still-ordered : (d : Edge) → d .unordered ≡ false → is-into n d ≡ false → looser d .unordered ≡ false
         still-ordered d e f = rw (e, f, sort-holds-out n (one-visit r) (sort-kind (step-at (r .steps) n) (sort-now t))) (nothing (is-out-of n d))
 
     settled-linked : Linked ps rest (settled n (one-visit r))
@@ -149,17 +153,17 @@ module _ (ps : List Step) (n : ℕ) (rest : List ℕ) (r : Run) (g : Linked ps (
     settled-linked = record {
       sorts = λ k. sorts-kept (r .steps) n (ruling n (one-visit r) .0) (ruling-sort n (one-visit r)) k ∙ g .sorts k;
       once = λ k t. omega (arith, g .once k t);
-      leaves = λ k t. omega (arith, g .leaves k t, count-map (is-out-of k) (loosened n x) (r .edges));
+      leaves = λ k t. omega (arith, g .leaves k t, count-map (is-out-of k) looser (r .edges));
       enters =
           λ k t m.
           let h = g .enters k t (List·Memᴰ·tail m) in
           let apart : k ≢ n = λ j. not-later (subst (λ y. step-at ps y .kind ≡ IR.Sort) j t) (subst (λ y. List·Memᴰ y rest) j m) in
           rw getD-set-other (record {
-            one = count-map (is-into k) (loosened n x) (r .edges) ∙ h .one;
+            one = count-map (is-into k) looser (r .edges) ∙ h .one;
             reads = h .reads;
-            linked = of-map (From-input k (step-at (r .steps) k .inputs)) (loosened n x) (r .edges) (h .linked);
+            linked = of-map (From-input k (step-at (r .steps) k .inputs)) looser (r .edges) (h .linked);
           });
-      clear = λ k t. of-map (λ (d : Edge). d .producer ≡ some k → Clear (d .consumer) k rest) (loosened n x) (r .edges) (λ d m p. g .clear k t d m p .1);
+      clear = λ k t. of-map (λ (d : Edge). d .producer ≡ some k → Clear (d .consumer) k rest) looser (r .edges) (λ d m p. g .clear k t d m p .1);
       kept = (held-now, kept-visit ps (r .back) (n ∷ rest) n r e (List·Memᴰ·head refl) (g .kept));
     }
 
@@ -171,6 +175,9 @@ module _ (ps : List Step) (n : ℕ) (rest : List ℕ) (r : Run) (g : Linked ps (
 
     abbrev out : Edge
     out = out-edge n (r .edges)
+
+    abbrev relink : Edge → Edge
+    relink = relinked n input
 
     one-in : One-in n (step-at (r .steps) n .inputs) (r .edges)
     one-in = g .enters n t (List·Memᴰ·head refl)
@@ -187,32 +194,34 @@ module _ (ps : List Step) (n : ℕ) (rest : List ℕ) (r : Run) (g : Linked ps (
     is-out : (d : Edge) → List·Memᴰ d (r .edges) → T (is-out-of n d) → d ≡ out
     is-out d m u = only-one (is-out-of n) (r .edges) (omega (arith, one-out t)) d out m u (out-there .0) (out-there .1)
 
-    outs-after : (k : ℕ) → k ≢ n → outs k (map (relinked n input) (r .edges)) ≡ outs k (r .edges)
+    outs-after : (k : ℕ) → k ≢ n → outs k (map relink (r .edges)) ≡ outs k (r .edges)
     outs-after k h = by (ℕ-discrete k input)
       where
         from : (d : Edge) → List·Memᴰ d (r .edges) → d .consumer ≡ n → d .producer ≡ some input
         from d m c = one-in .linked d m c .1
 
-        moved : outs input (map (relinked n input) (r .edges)) + intos n (r .edges) ≡ outs input (r .edges) + outs n (r .edges)
+        moved : outs input (map relink (r .edges)) + intos n (r .edges) ≡ outs input (r .edges) + outs n (r .edges)
         moved =
             omega (
               arith,
-              count-map (is-out-of input) (relinked n input) (r .edges),
-              count-balance (λ (d : Edge). is-out-of input (relinked n input d)) (is-into n) (is-out-of input) (is-out-of n) (r .edges) (λ d m. relinked-input n input input-other d (from d m)),
+              count-map (is-out-of input) relink (r .edges),
+              count-balance (λ (d : Edge). is-out-of input (relink d)) (is-into n) (is-out-of input) (is-out-of n) (r .edges)
+                  (λ d m. relinked-input n input input-other d (from d m)),
             )
 
-        by : Dec (k ≡ input) → outs k (map (relinked n input) (r .edges)) ≡ outs k (r .edges)
-        by (yes i) = subst (λ y. outs y (map (relinked n input) (r .edges)) ≡ outs y (r .edges)) (sym i) (omega (arith, moved, one-in .one, one-out t))
+        by : Dec (k ≡ input) → outs k (map relink (r .edges)) ≡ outs k (r .edges)
+        by (yes i) = subst (λ y. outs y (map relink (r .edges)) ≡ outs y (r .edges)) (sym i) (omega (arith, moved, one-in .one, one-out t))
         by (no l) =
-            count-map (is-out-of k) (relinked n input) (r .edges)
-            ∙ count-same (λ (d : Edge). is-out-of k (relinked n input d)) (is-out-of k) (r .edges) (λ d m. relinked-elsewhere n input input-other d (from d m) k h l)
+            count-map (is-out-of k) relink (r .edges)
+            ∙ count-same (λ (d : Edge). is-out-of k (relink d)) (is-out-of k) (r .edges) (λ d m. relinked-elsewhere n input input-other d (from d m) k h l)
 
-    no-outs-after : outs n (map (relinked n input) (r .edges)) ≡ 0
+    no-outs-after : outs n (map relink (r .edges)) ≡ 0
     no-outs-after =
-        count-map (is-out-of n) (relinked n input) (r .edges)
-        ∙ count-none (λ (d : Edge). is-out-of n (relinked n input d)) (r .edges) (λ d m. relinked-out n input input-other d)
+        count-map (is-out-of n) relink (r .edges)
+        ∙ count-none (λ (d : Edge). is-out-of n (relink d)) (r .edges) (λ d m. relinked-out n input input-other d)
 
-    enters-after : (k : ℕ) → step-at ps k .kind ≡ IR.Sort → List·Memᴰ k rest → One-in k (step-at (unlink-node n (one-visit r) .steps) k .inputs) (map (relinked n input) (r .edges))
+    enters-after : (k : ℕ) → step-at ps k .kind ≡ IR.Sort → List·Memᴰ k rest
+        → One-in k (step-at (unlink-node n (one-visit r) .steps) k .inputs) (map relink (r .edges))
     unfolding unlink-node
     enters-after k u m = by (ℕ-discrete k (out .consumer))
       where
@@ -222,8 +231,10 @@ module _ (ps : List Step) (n : ℕ) (rest : List ℕ) (r : Run) (g : Linked ps (
         other : k ≢ n
         other j = not-later (subst (λ y. step-at ps y .kind ≡ IR.Sort) j u) (subst (λ y. List·Memᴰ y rest) j m)
 
-        one : intos k (map (relinked n input) (r .edges)) ≡ 1
-        one = count-map (is-into k) (relinked n input) (r .edges) ∙ count-same (λ (d : Edge). is-into k (relinked n input d)) (is-into k) (r .edges) (λ d i. relinked-into n input k d) ∙ h .one
+        one : intos k (map relink (r .edges)) ≡ 1
+        one =
+            count-map (is-into k) relink (r .edges)
+            ∙ count-same (λ (d : Edge). is-into k (relink d)) (is-into k) (r .edges) (λ d i. relinked-into n input k d) ∙ h .one
 
         inputs : List ℕ
         inputs = step-at (r .steps) k .inputs
@@ -231,7 +242,8 @@ module _ (ps : List Step) (n : ℕ) (rest : List ℕ) (r : Run) (g : Linked ps (
         not-cut : (d : Edge) (l : List ℕ) → T (is-into n d) → From-input k l (cut d)
         not-cut d l v c = absurd (other (sym c ∙ eqb→eq (d .consumer) n v))
 
-        by : Dec (k ≡ out .consumer) → One-in k (step-at (set (r .steps) (out .consumer) (with-input (out .slot) input (step-at (r .steps) (out .consumer)))) k .inputs) (map (relinked n input) (r .edges))
+        by : Dec (k ≡ out .consumer)
+            → One-in k (step-at (set (r .steps) (out .consumer) (with-input (out .slot) input (step-at (r .steps) (out .consumer)))) k .inputs) (map relink (r .edges))
         by (yes i) =
             let slot = h .linked out (out-there .0) (sym i) .0 in
             let mine : (d : Edge) → List·Memᴰ d (r .edges) → d .consumer ≡ k → T (is-out-of n d) =
@@ -242,7 +254,7 @@ module _ (ps : List Step) (n : ℕ) (rest : List ℕ) (r : Run) (g : Linked ps (
               one = one;
               reads = simp length-set (h .reads);
               linked =
-                  of-map (From-input k (set inputs 0 input)) (relinked n input) (r .edges)
+                  of-map (From-input k (set inputs 0 input)) relink (r .edges)
                   (λ d v. three-ways n input (From-input k (set inputs 0 input)) d (not-cut d (set inputs 0 input))
                   (λ j w c. (h .linked d v c .0, ap some (sym (getD-set-same inputs 0 input 0 (h .reads)))))
                   (λ j w c. absurd (not-both (is-out-of n d) (mine d v c) w)));
@@ -252,7 +264,7 @@ module _ (ps : List Step) (n : ℕ) (rest : List ℕ) (r : Run) (g : Linked ps (
               one = one;
               reads = h .reads;
               linked =
-                  of-map (From-input k inputs) (relinked n input) (r .edges)
+                  of-map (From-input k inputs) relink (r .edges)
                   (λ d v. three-ways n input (From-input k inputs) d (not-cut d inputs)
                   (λ j w c. absurd (l (sym c ∙ ap (λ (x : Edge). x .consumer) (is-out d v w))))
                   (λ j w. h .linked d v));
@@ -266,7 +278,7 @@ module _ (ps : List Step) (n : ℕ) (rest : List ℕ) (r : Run) (g : Linked ps (
       leaves = λ k u. by k u (ℕ-discrete k n);
       enters = enters-after;
       clear =
-          λ k u. of-map (λ (d : Edge). d .producer ≡ some k → Clear (d .consumer) k rest) (relinked n input) (r .edges)
+          λ k u. of-map (λ (d : Edge). d .producer ≡ some k → Clear (d .consumer) k rest) relink (r .edges)
           (λ d m. three-ways n input (λ (x : Edge). x .producer ≡ some k → Clear (x .consumer) k rest) d
           (λ v p. let z : _≡_ {A = ℕ} 0 1 = cc in absurd (omega arith))
           (λ i v p. clear-absent (d .consumer) k rest (left-behind t d m (producer-of n d v) .1))
@@ -274,8 +286,10 @@ module _ (ps : List Step) (n : ℕ) (rest : List ℕ) (r : Run) (g : Linked ps (
       kept = kept-part ps (r .back) (n ∷ rest) rest _ (λ m i. List·Memᴰ·tail i) (kept-visit ps (r .back) (n ∷ rest) n r e (List·Memᴰ·head refl) (g .kept));
     }
       where
-        by : (k : ℕ) → step-at ps k .kind ≡ IR.Sort → Dec (k ≡ n) → outs k (map (relinked n input) (r .edges)) ≡ times k (r .back) + times k rest
-        by k u (yes i) = subst (λ y. outs y (map (relinked n input) (r .edges)) ≡ times y (r .back) + times y rest) (sym i) (omega (arith, no-outs-after, g .once n t, times-same n rest))
+        by : (k : ℕ) → step-at ps k .kind ≡ IR.Sort → Dec (k ≡ n) → outs k (map relink (r .edges)) ≡ times k (r .back) + times k rest
+        by k u (yes i) =
+            subst (λ y. outs y (map relink (r .edges)) ≡ times y (r .back) + times y rest) (sym i)
+            (omega (arith, no-outs-after, g .once n t, times-same n rest))
         by k u (no h) = omega (arith, outs-after k h, g .leaves k u, times-other k n rest h)
 
 pub linked-visit : (ps : List Step) (n : ℕ) (rest : List ℕ) (r r′ : Run) → Linked ps (n ∷ rest) r → simplify-ir-node-orders n r ≡ done r′ → Linked ps rest r′

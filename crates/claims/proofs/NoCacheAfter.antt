@@ -6,16 +6,15 @@ use native.Mathlib.Omega.{arith}
 use native.Mathlib.Nat.{not-suc-le-zero}
 use native.Mathlib.Decide.{ℕ-discrete}
 use mathlib.Core.List.{List, [], _∷_, List·Memᴰ, List·Memᴰ·head, List·Memᴰ·not-nil}
-use lib.Dec.{eqb}
 use lib.ListN.{length, getD}
-use Rattle.plan.specs.Lists.{if_then_else_, times, concat-map}
+use Rattle.plan.specs.Lists.{times, concat-map}
 use Rattle.plan.specs.Sheet.{Step, Sheet, step-at}
 use Rattle.plan.specs.Faults.{named}
 use Rattle.plan.specs.Graph.{graph}
 use Rattle.plan.specs.Visit.{is-out-of}
 use Rattle.claims.specs.Demand3.{Is-sort, Cache-after, No-cache-after}
 use Rattle.claims.proofs.Taken.{well-formed}
-use Rattle.claims.proofs.Counts.{mem-at, some-counted, sum-append, times-of}
+use Rattle.claims.proofs.Counts.{mem-at, some-counted, sum-append, times-of, only}
 use Rattle.claims.proofs.Plans.{Plan, plan-of}
 use Rattle.claims.proofs.Edges.{producer-of}
 use Rattle.claims.proofs.Links.{Clear}
@@ -24,8 +23,8 @@ use Rattle.claims.proofs.Starts.{named-once, one-edge, named-by, consum
 named-in : (n : ℕ) (ps : List Step) (c : ℕ) → List·Memᴰ n (step-at ps c .inputs) → 1 ≤ times n (named ps)
 unfolding named concat-map
 named-in n [] c m = absurd (List·Memᴰ·not-nil m)
-named-in n (x ∷ ps) zero m = omega (arith, times-of n (x .inputs) m, sum-append (λ y. if eqb n y then 1 else 0) (x .inputs) (named ps))
-named-in n (x ∷ ps) (suc c) m = omega (arith, named-in n ps c m, sum-append (λ y. if eqb n y then 1 else 0) (x .inputs) (named ps))
+named-in n (x ∷ ps) zero m = omega (arith, times-of n (x .inputs) m, sum-append (only n) (x .inputs) (named ps))
+named-in n (x ∷ ps) (suc c) m = omega (arith, named-in n ps c m, sum-append (only n) (x .inputs) (named ps))
 
 -- a step that two steps name is named twice
 named-twice : (n : ℕ) (ps : List Step) (c c′ : ℕ) → List·Memᴰ n (step-at ps c .inputs) → List·Memᴰ n (step-at ps c′ .inputs) → c ≢ c′ → 2 ≤ times n (named ps)
@@ -33,11 +32,11 @@ unfolding named concat-map
 named-twice n [] c c′ m m′ h = absurd (List·Memᴰ·not-nil m)
 named-twice n (x ∷ ps) zero zero m m′ h = absurd (h refl)
 named-twice n (x ∷ ps) zero (suc c′) m m′ h =
-    omega (arith, times-of n (x .inputs) m, named-in n ps c′ m′, sum-append (λ y. if eqb n y then 1 else 0) (x .inputs) (named ps))
+    omega (arith, times-of n (x .inputs) m, named-in n ps c′ m′, sum-append (only n) (x .inputs) (named ps))
 named-twice n (x ∷ ps) (suc c) zero m m′ h =
-    omega (arith, times-of n (x .inputs) m′, named-in n ps c m, sum-append (λ y. if eqb n y then 1 else 0) (x .inputs) (named ps))
+    omega (arith, times-of n (x .inputs) m′, named-in n ps c m, sum-append (only n) (x .inputs) (named ps))
 named-twice n (x ∷ ps) (suc c) (suc c′) m m′ h =
-    omega (arith, named-twice n ps c c′ m m′ (λ e. h (ap suc e)), sum-append (λ y. if eqb n y then 1 else 0) (x .inputs) (named ps))
+    omega (arith, named-twice n ps c c′ m m′ (λ e. h (ap suc e)), sum-append (only n) (x .inputs) (named ps))
 
 not-after : (c n i j : ℕ) (l : List ℕ) → Clear c n l → i < j → j < length l → getD l i 0 ≡ n → getD l j 0 ≡ c → ⊥
 not-after c n i j [] k h b e f = not-suc-le-zero b

@@ -16,7 +16,7 @@ use Rattle.plan.specs.Faults.{named}
 use Rattle.plan.specs.Graph.{Edge, graph, grow, popped, hits, opens, following, edges-into, sinks, is-cache, most-places}
 use Rattle.plan.specs.Visit.{is-into, is-out-of}
 use Rattle.claims.proofs.Booleans.{T-eq, differ, equal}
-use Rattle.claims.proofs.Counts.{false-of, mem-at, sum-append, sum-reverse, sum-ones, times-same, times-other, same-number}
+use Rattle.claims.proofs.Counts.{false-of, mem-at, sum-append, sum-reverse, sum-ones, times-same, times-other, same-number, only}
 use Rattle.claims.proofs.Plans.{Plan, root-there, input-there, cache-named, cache-used}
 use Rattle.claims.proofs.Reached.{followed, followed-le, followed-none, followed-next, all-placed}
 use Rattle.claims.proofs.Hits.{hits-named}
@@ -45,13 +45,10 @@ module _ (ps : List Step) (plan : Plan ps) where
   unfolding opened
   used-up past waiting c n o = by (is-cache ps n) (plan .once n) (cache-named ps plan n) o
     where
-      w : ℕ → ℕ
-      w m = if eqb n m then 1 else 0
-
       by : (b : Bool) → (T (not b) → times n (sinks ps) + times n (named ps) ≤ 1) → (T b → times n (sinks ps) ≡ 0)
           → T (if b then leb (times n (named ps)) (times n past) else leb 1 (times n past)) → times n waiting ≡ 0
-      by true f g o = omega (arith, g tt, leb→le (times n (named ps)) (times n past) o, c w, followed-le w ps (opened ps past))
-      by false f g o = omega (arith, f tt, leb→le 1 (times n past) o, c w, followed-le w ps (opened ps past))
+      by true f g o = omega (arith, g tt, leb→le (times n (named ps)) (times n past) o, c (only n), followed-le (only n) ps (opened ps past))
+      by false f g o = omega (arith, f tt, leb→le 1 (times n past) o, c (only n), followed-le (only n) ps (opened ps past))
 
   module _ (past ns : List ℕ) (n : ℕ) (c : Counted ps past (n ∷ ns)) where
     not-yet : opened ps past n ≡ false
@@ -62,11 +59,8 @@ module _ (ps : List Step) (plan : Plan ps) where
     unfolding opened opens
     opens-here = rw (times-same n past) (by (is-cache ps n) (cache-named ps plan n) (hits-named ps plan n))
       where
-        w : ℕ → ℕ
-        w m = if eqb n m then 1 else 0
-
         most : times n past + 1 + times n ns ≤ times n (sinks ps) + times n (named ps)
-        most = omega (arith, c w, followed-le w ps (opened ps past), times-same n ns)
+        most = omega (arith, c (only n), followed-le (only n) ps (opened ps past), times-same n ns)
 
         by : (b : Bool) → (T b → times n (sinks ps) ≡ 0) → (T b → hits (popped ps) n ≡ times n (named ps))
             → (if b then leb (times n (named ps)) (1 + times n past) else leb 1 (1 + times n past)) ≡ (not b || eqb (times n past + 1) (hits (popped ps) n))
@@ -137,7 +131,8 @@ intos-made n m k [] = by (eqb m n)
     by false = refl
 intos-made n m k (x ∷ ms) = by (eqb m n) (intos-made n m (suc k) ms)
   where
-    by : (b : Bool) → intos n (made-for m (suc k) ms) ≡ (if b then length ms else 0) → (if b then 1 else 0) + intos n (made-for m (suc k) ms) ≡ (if b then suc (length ms) else 0)
+    by : (b : Bool) → intos n (made-for m (suc k) ms) ≡ (if b then length ms else 0)
+        → (if b then 1 else 0) + intos n (made-for m (suc k) ms) ≡ (if b then suc (length ms) else 0)
     by true e = omega arith
     by false e = omega arith
 
@@ -183,7 +178,7 @@ module _ (ps : List Step) (plan : Plan ps) where
 
     -- a step with one input, that is no Cache, opens at its place
     one-follows : (m : ℕ) → T (not (is-cache ps m)) → length (step-at ps m .inputs) ≡ 1
-        → _≡_ {A = ℕ} (if eqb n m then length ms else 0) (if eqb m n then 1 else 0)
+        → _≡_ {A = ℕ} (if eqb n m then length ms else 0) (only m n)
     unfolding following opens
     one-follows m h l = by (ℕ-discrete m n)
       where
@@ -191,9 +186,9 @@ module _ (ps : List Step) (plan : Plan ps) where
         opens-now true h = absurd h
         opens-now false h = l
 
-        by : Dec (m ≡ n) → _≡_ {A = ℕ} (if eqb n m then length ms else 0) (if eqb m n then 1 else 0)
+        by : Dec (m ≡ n) → _≡_ {A = ℕ} (if eqb n m then length ms else 0) (only m n)
         by (yes i) =
-            subst (λ x. _≡_ {A = ℕ} (if eqb x m then length (follow ps past x) else 0) (if eqb m x then 1 else 0)) i
+            subst (λ x. _≡_ {A = ℕ} (if eqb x m then length (follow ps past x) else 0) (only m x)) i
             (rw (same-number m) (opens-now (is-cache ps m) h))
         by (no k) = rw (differ m n k, differ n m (λ e. k (sym e)))
 
@@ -208,7 +203,7 @@ module _ (ps : List Step) (plan : Plan ps) where
                 arith,
                 k .leaving m,
                 sum-append (λ (d : Edge). if is-out-of m d then 1 else 0) es (made-for n 0 ms),
-                sum-append (λ x. if eqb m x then 1 else 0) ns ms,
+                sum-append (only m) ns ms,
                 outs-made m n 0 ms,
               );
           entering =
@@ -267,7 +262,7 @@ unfolding opened sum
 graph-ordered ps plan =
     let (p, i, c, g) = result ps plan in
     let all = all-placed ps plan p (opened ps p) (λ w. omega (arith, c w)) (λ n l e. by n (is-cache ps n) p e (plan .rooted n l)) in
-    let times-in : (n : ℕ) → times n (graph ps .0) ≡ times n p = λ n. rw i (sum-reverse (λ m. if eqb n m then 1 else 0) p) in
+    let times-in : (n : ℕ) → times n (graph ps .0) ≡ times n p = λ n. rw i (sum-reverse (only n) p) in
     record {
       back = p;
       reversed = i;

@@ -16,7 +16,7 @@ use Rattle.plan.specs.Faults.{references-right, children-earlier, inputs-earlie
 use Rattle.plan.specs.Graph.{sinks, is-cache}
 use Rattle.claims.specs.WellFormed.{WellFormed}
 use Rattle.claims.proofs.Booleans.{and-left, and-right, differ, equal, all-at, of-all, entry-at}
-use Rattle.claims.proofs.Counts.{true-of, false-of, T-of, not-both, mem-concat, count-none, times-of}
+use Rattle.claims.proofs.Counts.{true-of, false-of, T-of, not-both, mem-concat, count-none, times-of, only}
 use Rattle.claims.proofs.StepTable.{same-kind, in-range, has-inputs, sort-has-one-input}
 
 -- The roots -------------------------------------------------------------------------------------------------------------------
@@ -25,14 +25,14 @@ abbrev sinks-from : ℕ → List Step → List ℕ
 sinks-from k ps = map (λ (n, s). n) (select (λ (n, s). same-ir (s .kind) IR.Sink) (numbered k ps))
 
 sinks-cons : (n k : ℕ) (x : Step) (ps : List Step)
-    → times n (sinks-from k (x ∷ ps)) ≡ (if same-ir (x .kind) IR.Sink then (if eqb n k then 1 else 0) else 0) + times n (sinks-from (suc k) ps)
+    → times n (sinks-from k (x ∷ ps)) ≡ (if same-ir (x .kind) IR.Sink then only n k else 0) + times n (sinks-from (suc k) ps)
 unfolding numbered select sum
 sinks-cons n k x ps = by (same-ir (x .kind) IR.Sink)
   where
     later : List (ℕ × Step)
     later = select (λ (n, s). same-ir (s .kind) IR.Sink) (numbered (suc k) ps)
 
-    by : (b : Bool) → times n (map (λ (n, s). n) (if b then (k, x) ∷ later else later)) ≡ (if b then (if eqb n k then 1 else 0) else 0) + times n (map (λ (n, s). n) later)
+    by : (b : Bool) → times n (map (λ (n, s). n) (if b then (k, x) ∷ later else later)) ≡ (if b then only n k else 0) + times n (map (λ (n, s). n) later)
     by true = refl
     by false = omega arith
 
@@ -40,7 +40,8 @@ sinks-cons n k x ps = by (same-ir (x .kind) IR.Sink)
 skipped : (n k : ℕ) (x : Step) (ps : List Step) → n ≢ k → times n (sinks-from k (x ∷ ps)) ≡ times n (sinks-from (suc k) ps)
 skipped n k x ps h = let e = rw (differ n k h) at (sinks-cons n k x ps) in by (same-ir (x .kind) IR.Sink) e
   where
-    by : (b : Bool) → times n (sinks-from k (x ∷ ps)) ≡ (if b then 0 else 0) + times n (sinks-from (suc k) ps) → times n (sinks-from k (x ∷ ps)) ≡ times n (sinks-from (suc k) ps)
+    by : (b : Bool) → times n (sinks-from k (x ∷ ps)) ≡ (if b then 0 else 0) + times n (sinks-from (suc k) ps)
+        → times n (sinks-from k (x ∷ ps)) ≡ times n (sinks-from (suc k) ps)
     by true e = omega arith
     by false e = omega arith
 
@@ -128,7 +129,8 @@ module _ (sh : Sheet) (w : WellFormed sh) where
       by : Dec (n < length ps) → (m < length ps) × (m < n) × (same-ir (step-at ps m .kind) IR.Sink ≡ false)
       by (yes h) =
           let sink = same-ir (step-at ps m .kind) IR.Sink in
-          let ok = of-all (λ m. ltb m n && not (same-ir (step-at ps m .kind) IR.Sink)) (step-at ps n .inputs) (entry-at (inputs-earlier sh) ps no-step inputs-all n h) m i in
+          let all = entry-at (inputs-earlier sh) ps no-step inputs-all n h in
+          let ok = of-all (λ m. ltb m n && not (same-ir (step-at ps m .kind) IR.Sink)) (step-at ps n .inputs) all m i in
           let before = leb→le (suc m) n (and-left (ltb m n) (not sink) ok) in
           (omega arith, before, false-of sink (λ s. T-not sink (and-right (ltb m n) (not sink) ok) s))
       by (no h) = absurd (List·Memᴰ·not-nil (subst (λ (x : Step). List·Memᴰ m (x .inputs)) (List·getD-eq-default ps no-step (omega arith)) i))
@@ -160,7 +162,8 @@ module _ (sh : Sheet) (w : WellFormed sh) where
           let sink = same-ir (step-at ps n .kind) IR.Sink in
           there sink (is-cache ps n) h (sinks-count ps n) (λ a. unnamed n (λ p. not-both sink (T-of sink a) (p .1))) (used-right n l)
       by (no l) =
-          let none : times n (sinks ps) ≡ 0 = sinks-count ps n ∙ ap (λ (x : Step). if same-ir (x .kind) IR.Sink then 1 else 0) (List·getD-eq-default ps no-step {n = n} (omega arith)) in
+          let past = List·getD-eq-default ps no-step {n = n} (omega arith) in
+          let none : times n (sinks ps) ≡ 0 = sinks-count ps n ∙ ap (λ (x : Step). if same-ir (x .kind) IR.Sink then 1 else 0) past in
           omega (arith, none, unnamed n (λ p. l (p .0)))
 
   rooted-or-named : (n : ℕ) → n < length ps → 1 ≤ times n (sinks ps) + times n (named ps)

@@ -14,7 +14,7 @@ use Rattle.plan.specs.Sheet.{Step, no-step, step-at}
 use Rattle.plan.specs.Faults.{named}
 use Rattle.plan.specs.Graph.{sinks}
 use Rattle.claims.proofs.Booleans.{differ}
-use Rattle.claims.proofs.Counts.{true-of, entry-of, sum-eq, sum-le, sum-numbered, sum-concat, count-none}
+use Rattle.claims.proofs.Counts.{true-of, entry-of, sum-eq, sum-le, sum-numbered, sum-concat, count-none, only}
 use Rattle.claims.proofs.Plans.{Plan}
 
 -- what the inputs of the open steps weigh, by a weighing of the steps
@@ -36,7 +36,8 @@ module _ (w : ℕ → ℕ) (ps : List Step) (opened : ℕ → Bool) where
   followed-le =
       omega (
         arith,
-        sum-le (λ (n, s). if opened n then sum w (s .inputs) else 0) (λ (n, s). sum w (s .inputs)) (numbered 0 ps) (λ (n, s) _. part-of (opened n) (sum w (s .inputs))),
+        sum-le (λ (n, s). if opened n then sum w (s .inputs) else 0) (λ (n, s). sum w (s .inputs)) (numbered 0 ps)
+            (λ (n, s) _. part-of (opened n) (sum w (s .inputs))),
         sum-named w ps,
       )
 
@@ -106,8 +107,7 @@ module _ (ps : List Step) (plan : Plan ps) (places : List ℕ) (opened : ℕ →
   all-open : (f n : ℕ) → length ps ≤ n + f → n < length ps → T (opened n)
   all-open zero n h l = absurd (omega arith)
   all-open (suc f) n h l =
-      let w : ℕ → ℕ = λ m. if eqb n m then 1 else 0 in
-      opens n l (omega (arith, counted w, followed-all w ps opened (λ m k. by m k (decLt n m) (λ i. all-open f m (omega arith) k))))
+      opens n l (omega (arith, counted (only n), followed-all (only n) ps opened (λ m k. by m k (decLt n m) (λ i. all-open f m (omega arith) k))))
     where
       by : (m : ℕ) → m < length ps → Dec (n < m) → (n < m → T (opened m)) → T (opened m) ⊎ (times n (step-at ps m .inputs) ≡ 0)
       by m k (yes i) rec = inl (rec i)

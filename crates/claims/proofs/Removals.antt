@@ -6,11 +6,11 @@ use native.Mathlib.Omega.{arith}
 use native.Mathlib.Decide.{decLe}
 use mathlib.Core.Bool.{true, _&&_, not}
 use mathlib.Core.List.{List, [], _∷_, List·Memᴰ, List·Memᴰ·head, List·Memᴰ·tail, List·Memᴰ·not-nil, List·Memᴰ·cases-cons}
-use lib.Dec.{T, eqb}
+use lib.Dec.{T}
 use lib.ListN.{length}
 use Rattle.plan.specs.declared.ir.IR.{IR}
 use Rattle.plan.specs.Kinds.{ir-number, same-ir}
-use Rattle.plan.specs.Lists.{if_then_else_, yes?, sum, times}
+use Rattle.plan.specs.Lists.{yes?, sum, times}
 use Rattle.plan.specs.Sheet.{Sheet, Outcome, done, step-at}
 use Rattle.plan.specs.Graph.{Edge, graph}
 use Rattle.plan.specs.Visit.{Run, simplify-ir-node-orders, goes, unlink-node, settled, is-out-of, no-edge, out-edge}
@@ -22,7 +22,7 @@ use Rattle.claims.proofs.Booleans.{and-right}
 use Rattle.claims.proofs.Taken.{well-formed}
 use Rattle.claims.proofs.Walks.{two-ways, walk-keeps, trace-keeps, walk-at}
 use Rattle.claims.proofs.Visits.{walked}
-use Rattle.claims.proofs.Counts.{T-of, not-both, mem-at, counted-in, times-of, stands-in}
+use Rattle.claims.proofs.Counts.{T-of, not-both, mem-at, counted-in, times-of, stands-in, only}
 use Rattle.claims.proofs.StepTable.{in-range}
 use Rattle.claims.proofs.Plans.{Plan, plan-of}
 use Rattle.claims.proofs.Places.{graph-ordered}
@@ -120,7 +120,7 @@ module _ (sh : Sheet) (plan : Plan (sh .steps)) (half : Run) (e₁ : down sh ≡
   unfolding sum
   rising = record {
     sorts = at-end .sorts;
-    one-out = λ n t. let five = sort-kind (step-at (sh .steps) n) t in omega (arith, at-end .leaves n five, at-end .once n five);
+    one-out = λ n t. let is-sort = sort-kind (step-at (sh .steps) n) t in omega (arith, at-end .leaves n is-sort, at-end .once n is-sort);
     kept = at-end .kept;
     removed = refl;
   }
@@ -155,18 +155,18 @@ module _ (sh : Sheet) (plan : Plan (sh .steps)) (half : Run) (e₁ : down sh ≡
   ordered-at-end : (n : ℕ) → T (unsliced-sort (step-at (sh .steps) n)) → ¬ Unordered-at (leaving n half) half
   unfolding sum
   ordered-at-end n t v =
-      let five = sort-kind (step-at (sh .steps) n) t in
+      let is-sort = sort-kind (step-at (sh .steps) n) t in
       let k = leaving n half in
       let h = unordered-there k half v in
       let one = counted-in (is-out-of n) (half .edges) (edge-at k half) (mem-at (half .edges) k no-edge h) (leaving-out n (half .edges) h) in
-      let m = stands-in n (half .back) (omega (arith, at-end .leaves n five)) in
+      let m = stands-in n (half .back) (omega (arith, at-end .leaves n is-sort)) in
       let held = kept-at (sh .steps) (half .back) [] (half .edges) (at-end .kept) n m t in
       not-both (out-edge n (half .edges) .unordered) (subst (λ (d : Edge). T (d .unordered)) (out-edge-at n (half .edges)) v)
       (held-out n [] half (rising .one-out n t) held)
 
   has-edge : (n : ℕ) → Is-sort sh n → (k : ℕ) × Edge-of sh half n k × (k < length (half .edges))
   unfolding down begin sum
-  has-edge n five = by (decLe 1 (times n (half .removed)))
+  has-edge n is-sort = by (decLe 1 (times n (half .removed)))
     where
       by : Dec (1 ≤ times n (half .removed)) → (k : ℕ) × Edge-of sh half n k × (k < length (half .edges))
       by (yes h) =
@@ -174,13 +174,13 @@ module _ (sh : Sheet) (plan : Plan (sh .steps)) (half : Run) (e₁ : down sh ≡
             | inl z ↦ absurd (List·Memᴰ·not-nil z)
             | inr (r, m, x) ↦
                 let (ms, g, w) = at-visit n r m in
-                let there = leaving-there n (r .edges) (omega (arith, one-out (sh .steps) n ms r g five)) in
+                let there = leaving-there n (r .edges) (omega (arith, one-out (sh .steps) n ms r g is-sort)) in
                 (leaving n r, inl (r, inl m, x, refl), omega (arith, walked (n ∷ ms) r w .edges))
           ]
       by (no h) =
-          let placed = graph-ordered (sh .steps) plan .placed-all (λ m. if eqb n m then 1 else 0) in
-          let rooted = plan .rooted n (in-range (sh .steps) n (ap ir-number five)) in
-          let there = leaving-there n (half .edges) (omega (arith, at-end .leaves n five, back-or-removed n places (begin sh) e₁)) in
+          let placed = graph-ordered (sh .steps) plan .placed-all (only n) in
+          let rooted = plan .rooted n (in-range (sh .steps) n (ap ir-number is-sort)) in
+          let there = leaving-there n (half .edges) (omega (arith, at-end .leaves n is-sort, back-or-removed n places (begin sh) e₁)) in
           (leaving n half, inr ((λ x. h (times-of n (half .removed) (removed-down n .1 x))), refl), there)
 
   removed-exactly : (n : ℕ) → Is-sort sh n → (k : ℕ) → Edge-of sh half n k → Removed sh half n ↔ (Unordered-at k half × No-slice sh n)
@@ -188,7 +188,9 @@ module _ (sh : Sheet) (plan : Plan (sh .steps)) (half : Run) (e₁ : down sh ≡
   removed-exactly n s k (inl (r, inr m, x, i)) = absurd (none-up n r m x)
   removed-exactly n s k (inr (f, i)) = (
     λ y. absurd (f y),
-    λ (v, w). absurd (ordered-at-end n (subst (λ (j : IR). T (same-ir j IR.Sort && not (yes? (step-at (sh .steps) n .b)))) (sym s) w) (subst (λ j. Unordered-at j half) i v)),
+    λ (v, w).
+        let unsliced = subst (λ (j : IR). T (same-ir j IR.Sort && not (yes? (step-at (sh .steps) n .b)))) (sym s) w in
+        absurd (ordered-at-end n unsliced (subst (λ j. Unordered-at j half) i v)),
   )
 
 pub removal : (s : List ℕ) (sh : Sheet) (half whole : Run) → Accepted s sh → down sh ≡ done half → up half ≡ done whole → Sorts-removed sh half whole

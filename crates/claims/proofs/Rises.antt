@@ -54,7 +54,9 @@ rising-visit ps gone n rest r r′ g e =
                   ap (λ (q : Run). outs k (q .edges)) (w .1),
                   count-map (is-out-of k) (loosened n (ruling n (one-visit r) .1)) (r .edges),
                 );
-            kept = kept-part ps rest (n ∷ []) [] (r′ .edges) (λ m i. absurd (List·Memᴰ·not-nil i)) (kept-visit ps rest (n ∷ []) n r e (List·Memᴰ·head refl) (g .kept .1));
+            kept =
+                kept-part ps rest (n ∷ []) [] (r′ .edges) (λ m i. absurd (List·Memᴰ·not-nil i))
+                (kept-visit ps rest (n ∷ []) n r e (List·Memᴰ·head refl) (g .kept .1));
             removed = ap (λ (q : Run). q .removed) (w .1) ∙ g .removed;
           }
     ]

@@ -35,7 +35,8 @@ few-named : (ps : List Step) → T (all? in-step-table ps) → length (named ps)
 unfolding named concat-map all?
 few-named [] t = omega arith
 few-named (x ∷ ps) t =
-    simp length-append (omega (arith, few-inputs x (and-left (in-step-table x) (all? in-step-table ps) t), few-named ps (and-right (in-step-table x) (all? in-step-table ps) t)))
+    let first = few-inputs x (and-left (in-step-table x) (all? in-step-table ps) t) in
+    simp length-append (omega (arith, few-named ps (and-right (in-step-table x) (all? in-step-table ps) t)))
 
 module _ (sh : Sheet) (w : WellFormed sh) where
   abbrev ps : List Step

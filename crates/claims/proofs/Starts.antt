@@ -6,7 +6,7 @@ use native.Mathlib.Omega.{arith}
 use mathlib.Core.Bool.{not}
 use mathlib.Core.List.{List, [], _∷_, _++_, reverse, reverse-cons, List·Memᴰ, List·Memᴰ·head, List·Memᴰ·tail, List·Memᴰ·not-nil, List·Memᴰ·append-cases, List·Memᴰ·eq-of-singleton}
 use mathlib.Core.Option.{some}
-use lib.Dec.{T, eqb}
+use lib.Dec.{T}
 use lib.ListN.{length, getD}
 use Rattle.plan.specs.declared.ir.IR.{IR}
 use Rattle.plan.specs.Kinds.{same-ir}
@@ -16,7 +16,7 @@ use Rattle.plan.specs.Faults.{named}
 use Rattle.plan.specs.Graph.{Edge, graph, sinks, is-cache}
 use Rattle.plan.specs.Walks.{begin}
 use Rattle.claims.specs.Demand3.{Is-sort}
-use Rattle.claims.proofs.Counts.{mem-at, sum-reverse, times-of, times-same}
+use Rattle.claims.proofs.Counts.{mem-at, sum-reverse, times-of, times-same, only}
 use Rattle.claims.proofs.Plans.{Plan}
 use Rattle.claims.proofs.Edges.{outs, same-some}
 use Rattle.claims.proofs.Places.{Later, Ordered, graph-ordered}
@@ -45,7 +45,7 @@ later-clear c n (x ∷ p) h o l =
     twice : x ≡ n → List·Memᴰ n (reverse p) → ⊥
     twice e m =
         let one = times-of n (reverse p) m in
-        omega (arith, one, sum-reverse (λ y. if eqb n y then 1 else 0) p, subst (λ y. times n (y ∷ p) ≤ 1) e o, times-same n p)
+        omega (arith, one, sum-reverse (only n) p, subst (λ y. times n (y ∷ p) ≤ 1) e o, times-same n p)
 
 module _ (sh : Sheet) (plan : Plan (sh .steps)) where
   abbrev ps : List Step
@@ -67,7 +67,7 @@ module _ (sh : Sheet) (plan : Plan (sh .steps)) where
   named-once n e = plan .once n (not-cache n e)
 
   one-place : (n : ℕ) → Is-sort sh n → times n places ≤ 1
-  one-place n e = omega (arith, g .placed-all (λ m. if eqb n m then 1 else 0), named-once n e)
+  one-place n e = omega (arith, g .placed-all (only n), named-once n e)
 
   pub one-edge : (n : ℕ) → Is-sort sh n → outs n edges ≡ times n places
   one-edge n e =
@@ -85,7 +85,7 @@ module _ (sh : Sheet) (plan : Plan (sh .steps)) where
   consumer-before n e d m j =
       let apart : n ≢ d .consumer = let h = plan .earlier (d .consumer) n (named-by n d m j) in omega arith in
       let one = subst (λ l. times n l ≤ 1) (g .reversed) (one-place n e) in
-      rw (g .reversed) (later-clear (d .consumer) n (g .back) apart (omega (arith, one, sum-reverse (λ x. if eqb n x then 1 else 0) (g .back))) (g .after d m n j))
+      rw (g .reversed) (later-clear (d .consumer) n (g .back) apart (omega (arith, one, sum-reverse (only n) (g .back))) (g .after d m n j))
 
   enters-at : (n : ℕ) → Is-sort sh n → List·Memᴰ n places → One-in n (step-at ps n .inputs) edges
   enters-at n e m =
@@ -95,7 +95,8 @@ module _ (sh : Sheet) (plan : Plan (sh .steps)) where
         reads = omega arith;
         linked =
             λ d k j.
-            let (h, q) = subst (λ x. let inputs = step-at ps x .inputs in (d .slot < length inputs) × (d .producer ≡ some (getD inputs (d .slot) 0))) j (g .made d k) in
+            let Named : ℕ → Type 0 = λ x. let inputs = step-at ps x .inputs in (d .slot < length inputs) × (d .producer ≡ some (getD inputs (d .slot) 0)) in
+            let (h, q) = subst Named j (g .made d k) in
             let first : d .slot ≡ 0 = omega arith in
             (first, q ∙ ap (λ x. some (getD (step-at ps n .inputs) x 0)) first);
       }

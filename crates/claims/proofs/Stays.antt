@@ -150,12 +150,19 @@ kept-visit ps (n ∷ back) rest m r {r′} e i k = (λ t. still (k .0 t), kept-v
           apart = λ x j. subst (Apart x) same (h .apart x j);
         }
 
-pub kept-at : (ps : List Step) (back rest : List ℕ) (es : List Edge) → Kept ps back rest es → (n : ℕ) → List·Memᴰ n back → T (unsliced-sort (step-at ps n)) → Held n [] es
+pub kept-at : (ps : List Step) (back rest : List ℕ) (es : List Edge) → Kept ps back rest es
+    → (n : ℕ) → List·Memᴰ n back → T (unsliced-sort (step-at ps n)) → Held n [] es
 kept-at ps [] rest es k n i t = absurd (List·Memᴰ·not-nil i)
 kept-at ps (x ∷ back) rest es k n i t =
     elim (List·Memᴰ·cases-cons i) [
       | inl e ↦
           let h = k .0 (subst (λ y. T (unsliced-sort (step-at ps y))) e t) in
-          record { at = h .at; there = h .there; leaves = subst (λ y. T (is-out-of y (getD es (h .at) no-edge))) (sym e) (h .leaves); ordered = h .ordered; apart = λ m j. absurd (List·Memᴰ·not-nil j) }
+          record {
+            at = h .at;
+            there = h .there;
+            leaves = subst (λ y. T (is-out-of y (getD es (h .at) no-edge))) (sym e) (h .leaves);
+            ordered = h .ordered;
+            apart = λ m j. absurd (List·Memᴰ·not-nil j);
+          }
       | inr j ↦ kept-at ps back (x ∷ rest) es (k .1) n j t
     ]
