@@ -1,4 +1,4 @@
--- How large a run's lists get, and its count of visits: what Limits states of the graph, of steps, edges and visits.
+-- The sizes of the graph and of a run, and its count of visits.
 use mathlib.Core.Path.{_≡_, refl, ap, _∙_}
 use mathlib.Core.Logic.{inl, inr}
 use Prim.Native.Nat.{ℕ, _+_, _*_, _≤_, _<_, _^_}
@@ -84,7 +84,7 @@ sized-visit sh all n ns r r′ s e =
     let t = visited n r e in
     record { steps = steps-kept n r e ∙ s .steps; edges = edges-kept n r e ∙ s .edges; visits = omega (arith, s .visits) }
 
--- in the state of any visit; at most 576 visits are made in all
+-- in the state of any visit; no more than 576 are made in all
 pub record Small (r : Run) : Type 0 where
   pub steps : length (r .steps) ≤ 32
   pub edges : length (r .edges) ≤ 256
