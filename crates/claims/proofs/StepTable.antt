@@ -1,0 +1,105 @@
+-- Steps by their kind: its number, and what refusal 4 leaves of their inputs.
+use mathlib.Core.Path.{_≡_, refl, ap, sym, _∙_, subst}
+use Prim.Native.Nat.{ℕ, suc, _≤_, _<_}
+use native.Mathlib.Omega.{arith}
+use native.Mathlib.Nat.{not-suc-le-zero}
+use native.Mathlib.Decide.{decLt}
+use mathlib.Core.Bool.{Bool, _&&_}
+use mathlib.Core.List.{List}
+use lib.Dec.{T, leb, eqb→eq, leb→le}
+use lib.ListN.{length, getD, List·getD-eq-default}
+use Rattle.plan.specs.declared.ir.IR.{IR}
+use Rattle.plan.specs.Kinds.{ir, ir-number, same-ir}
+use Rattle.plan.specs.Lists.{all?}
+use Rattle.plan.specs.Sheet.{Step, no-step, step-at, step-table, in-step-table}
+use Rattle.claims.proofs.Booleans.{and-left, and-right, all-at}
+
+-- Kinds and their numbers -----------------------------------------------------------------------------------------------------
+
+pub ir-of : (k : IR) → ir (ir-number k) ≡ k
+ir-of IR.Scan = refl
+ir-of IR.UnoptimizedDispatch = refl
+ir-of IR.Sink = refl
+ir-of IR.Select = refl
+ir-of IR.HStack = refl
+ir-of IR.Sort = refl
+ir-of IR.Filter = refl
+ir-of IR.GroupBy = refl
+ir-of IR.Distinct = refl
+ir-of IR.Join = refl
+ir-of IR.Gather = refl
+ir-of IR.Union = refl
+ir-of IR.MergeSorted = refl
+ir-of IR.MapFunction = refl
+ir-of IR.HConcat = refl
+ir-of IR.Slice = refl
+ir-of IR.ExtContext = refl
+ir-of IR.SimpleProjection = refl
+ir-of IR.Cache = refl
+
+pub same-kind : (k j : IR) → T (same-ir k j) → k ≡ j
+same-kind k j t = sym (ir-of k) ∙ ap ir (eqb→eq (ir-number k) (ir-number j) t) ∙ ir-of j
+
+-- a step of a kind other than Scan is there
+pub in-range : (ps : List Step) (n : ℕ) {k : ℕ} → ir-number (step-at ps n .kind) ≡ suc k → n < length ps
+in-range ps n {k} e = by (decLt n (length ps))
+  where
+    by : Dec (n < length ps) → n < length ps
+    by (yes h) = h
+    by (no h) = absurd (let z = ap (λ (s : Step). ir-number (s .kind)) (List·getD-eq-default ps no-step {n = n} (omega arith)) in omega (arith, z))
+
+-- and so is one with an input
+pub has-inputs : (ps : List Step) (n : ℕ) → 1 ≤ length (step-at ps n .inputs) → n < length ps
+has-inputs ps n h = by (decLt n (length ps))
+  where
+    by : Dec (n < length ps) → n < length ps
+    by (yes l) = l
+    by (no l) = absurd (not-suc-le-zero (subst (λ (s : Step). 1 ≤ length (s .inputs)) (List·getD-eq-default ps no-step (omega arith)) h))
+
+-- The table -------------------------------------------------------------------------------------------------------------------
+
+abbrev Row : Type 0
+Row = ℕ × ℕ × ℕ × ℕ × ℕ × ℕ × ℕ × ℕ
+
+abbrev no-row : Row
+no-row = (0, 0, 0, 0, 0, 0, 0, 0)
+
+-- the row of a step has the fewest and the most inputs that it may have
+inputs-fit : (s : Step) → T (in-step-table s)
+    → let row : Row = getD step-table (ir-number (s .kind)) no-row in (row .3 ≤ length (s .inputs)) × (length (s .inputs) ≤ row .4)
+unfolding in-step-table
+inputs-fit s t =
+    let row : Row = getD step-table (ir-number (s .kind)) no-row in
+    let n1 = length (s .inputs) in
+    let n2 = length (s .exprs) in
+    let (least, most) =
+    fourth-and-fifth (leb (s .a) (row .0)) (leb (s .b) (row .1)) (leb (s .c) (row .2)) (leb (row .3) n1) (leb n1 (row .4))
+    (leb (row .5) n2) (leb n2 (row .6)) (leb (length (s .aggs)) (row .7)) _ t in
+    (leb→le (row .3) n1 least, leb→le n1 (row .4) most)
+  where
+    fourth-and-fifth : (a b c d e f g h i : Bool) → T (a && b && c && d && e && f && g && h && i) → T d × T e
+    fourth-and-fifth a b c d e f g h i t =
+        let five = a && b && c && d && e in
+        let t₅ = and-left five f (and-left (five && f) g (and-left (five && f && g) h (and-left (five && f && g && h) i t))) in
+        (and-right (a && b && c) d (and-left (a && b && c && d) e t₅), and-right (a && b && c && d) e t₅)
+
+-- no kind has more than 8 inputs
+pub few-inputs : (s : Step) → T (in-step-table s) → length (s .inputs) ≤ 8
+unfolding step-table all?
+few-inputs s t =
+    let most = getD step-table (ir-number (s .kind)) no-row .4 in
+    omega (arith, inputs-fit s t .1, leb→le most 8 (in-every-row (ir-number (s .kind))))
+  where
+    in-every-row : (k : ℕ) → T (leb (getD step-table k no-row .4) 8)
+    in-every-row k = by (decLt k 19)
+      where
+        by : Dec (k < 19) → T (leb (getD step-table k no-row .4) 8)
+        by (yes h) = all-at (λ (x : Row). leb (x .4) 8) step-table no-row tt k h
+        by (no h) = rw (List·getD-eq-default step-table no-row {n = k} (omega arith)) tt
+
+pub sort-has-one-input : (s : Step) → s .kind ≡ IR.Sort → T (in-step-table s) → length (s .inputs) ≡ 1
+unfolding step-table
+sort-has-one-input s e t =
+    let (least, most) = inputs-fit s t in
+    let row = ap (λ (k : IR). getD step-table (ir-number k) no-row) e in
+    omega (arith, ap (λ (x : Row). x .3) row, ap (λ (x : Row). x .4) row)
