@@ -4,14 +4,16 @@ pub mod KindNumbers
 pub mod FunctionFlags
 pub mod FunctionIR
 pub mod Sheet
-pub mod Stored
 pub mod Faults
 pub mod Graph
 pub mod Orders
 pub mod Look
+pub mod Stored
 pub mod Visit
 pub mod Walks
 pub mod Text
+pub mod Decimals
+pub mod StoredLaws
 pub mod Finished
 pub mod Computing
 pub mod Cases

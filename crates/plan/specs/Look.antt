@@ -16,7 +16,7 @@ use Rattle.plan.specs.Orders.{∅, COLUMN, INDEPENDENT, _∪_, is-empty,
 -- what the looks of one visit share, and the run's tally of looks
 pub record Eos : Type 0 where
   pub expr-arena : List Expr
-  pub revisit-cache : List (ℕ × ObservableOrders)
+  pub revisit-cache : ℕ → Option ObservableOrders  -- a map: the entry of a node, if it has one
   pub struct-field-ordering : ObservableOrders  -- ∅ for the Rust's None, which refusal 9 keeps from being read
   pub internally-observed : ObservableOrders
   pub looks : ℕ
@@ -63,20 +63,20 @@ internal-observe o s =
       looks = s .looks;
     }
 
+-- the map with an entry more
+abbrev pub with-entry : ℕ → ObservableOrders → (ℕ → Option ObservableOrders) → ℕ → Option ObservableOrders
+with-entry p o cache q = if eqb q p then some o else cache q
+
 -- cache_output!, if it should
 abbrev pub cache-output : Bool → ℕ → ObservableOrders → Eos → Eos
 cache-output should-cache p o s =
     record {
       expr-arena = s .expr-arena;
-      revisit-cache = if should-cache then (p, o) ∷ s .revisit-cache else s .revisit-cache;
+      revisit-cache = if should-cache then with-entry p o (s .revisit-cache) else s .revisit-cache;
       struct-field-ordering = s .struct-field-ordering;
       internally-observed = s .internally-observed;
       looks = s .looks;
     }
-
-unfoldable pub cached : ℕ → List (ℕ × ObservableOrders) → Option ObservableOrders
-cached p [] = none
-cached p ((q, o) ∷ c) = elim (eqb p q) [ true ↦ some o | false ↦ cached p c ]
 
 -- The kinds, before the looks along the children ---------------------------------------------------------------------------
 
@@ -132,7 +132,7 @@ in-order b cs = if b .turned then first-last cs else cs
 
 -- check_return_cached!: the answer that a look gives at once
 unfoldable pub check-return-cached : Before → ℕ → Eos → Option ObservableOrders
-check-return-cached b p s = if b .checks then cached p (s .revisit-cache) else none
+check-return-cached b p s = if b .checks then s .revisit-cache p else none
 
 -- Sort, and SortBy over children that preserve length, where de-ordering is allowed: the first child's record takes its place
 unfoldable pub is-replaced : List Expr → Expr → Bool → Bool

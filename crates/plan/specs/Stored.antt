@@ -1,8 +1,11 @@
 -- How the code stores a sheet: the numbers of each line as they stand on it, at a fixed stride in lent bytes.
-use Prim.Native.Nat.{ℕ, zero, suc, _+_, _*_}
+use Prim.Native.Nat.{ℕ, zero, suc, _+_, _*_, _≤_, _<_}
+use mathlib.Core.Bool.{Bool, true, false}
 use mathlib.Core.List.{List, [], _∷_}
 use lib.ListN.{getD, take, drop}
-use Rattle.plan.specs.Sheet.{Expr, Step, Sheet, expr-of, step-of}
+use Rattle.plan.specs.Lists.{if_then_else_}
+use Rattle.plan.specs.Sheet.{Expr, Step, expr-of, step-of}
+use Rattle.plan.specs.Look.{switched-off}
 
 -- an E line: K, S, L, a and at most 8 children from byte 16 × i on, and the number of its children in byte 16 × i + 12
 unfoldable pub stored-expr : List ℕ → ℕ → Expr
@@ -22,3 +25,27 @@ stored-exprs bytes n = table (stored-expr bytes) 0 n
 
 unfoldable pub stored-steps : List ℕ → ℕ → List Step
 stored-steps bytes n = table (stored-step bytes) 0 n
+
+-- The arena as looks change it: line p holds the record that was stored as line[p], switched off where off[p] says so ------------
+
+unfoldable pub held-expr : List ℕ → List ℕ → List Bool → ℕ → Expr
+held-expr bytes line off p =
+    let e = stored-expr bytes (getD line p 0) in
+    if getD off p false then switched-off e else e
+
+unfoldable pub arena-of : List ℕ → List ℕ → List Bool → ℕ → List Expr
+arena-of bytes line off n = table (held-expr bytes line off) 0 n
+
+-- The numbers of a stored line are within their tables as far as printing goes ---------------------------------------------------
+
+pub record Expr-formed (bytes : List ℕ) (i : ℕ) : Type 0 where
+  pub kind : getD bytes (i * 16) 0 < 25
+  pub scalar : getD bytes (i * 16 + 1) 0 ≤ 1
+  pub length-preserving : getD bytes (i * 16 + 2) 0 ≤ 1
+  pub count : getD bytes (i * 16 + 12) 0 ≤ 8
+
+pub record Step-formed (bytes : List ℕ) (i : ℕ) : Type 0 where
+  pub kind : getD bytes (i * 32) 0 < 19
+  pub n1 : getD bytes (i * 32 + 4) 0 ≤ 8
+  pub n2 : getD bytes (i * 32 + 5) 0 ≤ 8
+  pub n3 : getD bytes (i * 32 + 6) 0 ≤ 8

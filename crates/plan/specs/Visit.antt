@@ -339,7 +339,7 @@ pub record Looked : Type 0 where
 -- expr_order_simplifier!
 abbrev pub expr-order-simplifier : List Expr → ℕ → Eos
 expr-order-simplifier es looks =
-    record { expr-arena = es; revisit-cache = []; struct-field-ordering = ∅; internally-observed = ∅; looks = looks }
+    record { expr-arena = es; revisit-cache = λ _. none; struct-field-ordering = ∅; internally-observed = ∅; looks = looks }
 
 unfoldable pub looks-of : Step → Around → List Expr → ℕ → Looked
 looks-of s e es looks =
