@@ -1,0 +1,3 @@
+pub mod Over
+pub mod Digits
+pub mod Tally
