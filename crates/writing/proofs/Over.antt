@@ -7,6 +7,7 @@ use native.Mathlib.Numerals.{add-one}
 use lib.ListN.{length, getD, take, drop, length-append, length-drop}
 use lib.Seq.{take-all, take-append-seam, drop-append-seam, drop-drop, drop-length, take-suc}
 use Rattle.plan.specs.Lists.{concat-map}
+use Rattle.plan.specs.Stored.{table}
 use Rattle.writing.specs.Wrote.{Wrote}
 
 part-from : (s : List ℕ) (a : ℕ) → take (length s - a) (drop a s) ≡ drop a s
@@ -14,6 +15,10 @@ part-from s a = take-all (length s - a) (drop a s) (omega (arith, length-drop a 
 
 part-rest : (s : List ℕ) (a : ℕ) → drop (length s - a) (drop a s) ≡ []
 part-rest s a = ap (λ (n : ℕ). drop n (drop a s)) (sym (length-drop a s)) ∙ drop-length (drop a s)
+
+-- a part that starts at b and is x long
+pub span : (b x : ℕ) → b + x - b ≡ x
+span b x = omega arith
 
 -- the length of a buffer that was written
 pub wrote-length : (t o x : List ℕ) (r : ℕ) → length t ≤ length o → Wrote t o x r → length x ≡ length o
@@ -86,3 +91,31 @@ module _ {A : Type 0} (f : A → List ℕ) where
   pub all-turns : (xs : List A) (i : ℕ) (o x : List ℕ) (r : ℕ) → length xs ≤ i → Wrote (concat-map f (take i xs)) o x r
       → Wrote (concat-map f xs) o x r
   all-turns xs i o x r h w = rw (take-all i xs h) at w
+
+-- The texts of a table's entries: the invariant of a loop is Wrote (concat-map f (table g 0 i)) entry out len ----------------------
+
+module _ {A : Type 0} (f : A → List ℕ) (g : ℕ → A) where
+  table-more : (k n : ℕ) → table g k (suc n) ≡ table g k n ++ (g (k + n) ∷ [])
+  unfolding table
+  table-more k zero = ap (λ (i : ℕ). g i ∷ []) (omega arith)
+  table-more k (suc n) =
+      ap (λ (l : List A). g k ∷ l) (table-more (suc k) n ∙ ap (λ (i : ℕ). table g (suc k) n ++ (g i ∷ [])) (omega arith))
+
+  entry-more : (i : ℕ) → concat-map f (table g 0 i) ++ f (g i) ≡ concat-map f (table g 0 (i + 1))
+  entry-more i =
+      sym
+      (rw (add-one, table-more 0 i, concat-append, concat-one)
+      (ap (λ (j : ℕ). concat-map f (table g 0 i) ++ f (g j)) (omega arith)))
+
+  pub no-entry : (o : List ℕ) → Wrote (concat-map f (table g 0 0)) o o 0
+  unfolding concat-map table
+  no-entry o = none-yet o
+
+  pub next-entry : (i : ℕ) (o x y : List ℕ) (r q : ℕ) → Wrote (concat-map f (table g 0 i)) o x r
+      → Wrote (f (g i)) (take (length x - r) (drop r x)) y q
+      → Wrote (concat-map f (table g 0 (i + 1))) o (take r x ++ (y ++ drop (length x - r) (drop r x))) (r + q)
+  next-entry i o x y r q v w = rw (← entry-more i) (then (concat-map f (table g 0 i)) (f (g i)) o x y r q v w)
+
+  pub all-entries : (n i : ℕ) (o x : List ℕ) (r : ℕ) → i ≡ n → Wrote (concat-map f (table g 0 i)) o x r
+      → Wrote (concat-map f (table g 0 n)) o x r
+  all-entries n i o x r e w = rw e at w

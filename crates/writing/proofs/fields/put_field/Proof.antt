@@ -4,82 +4,61 @@ use lib.ListN.{length-set}
 use Rattle.writing.proofs.Digits.{field-one, field-two, field-three}
 use Rattle.writing.proofs.fields.put_field.Statement.{statement}
 use Rattle.writing.proofs.fields.put_field.Tie as tie
-use Rattle.writing.proofs.fields.put_field.Reads as reads
-use Rattle.writing.proofs.fields.put_field.Lts as lts
 
--- src/fields.rt:22:5
 slice-write-out : tie.Need-slice-write-out
 slice-write-out c = search needs
 
--- src/fields.rt:24:18
 add-out : tie.Need-add-out
 add-out c = search needs
 
--- src/fields.rt:24:9
 slice-write-out-2 : tie.Need-slice-write-out-2
 slice-write-out-2 c = simp length-set (omega arith)
 
--- src/fields.rt:25:9
 same-length : tie.Need-same-length
 same-length c = search needs
 
--- src/fields.rt:25:9
 returns : tie.Need-returns
 returns c = (field-one _ _ (c .before .pre) (c .if1 .taken), omega arith)
 
--- src/fields.rt:28:18
 add-out-2 : tie.Need-add-out-2
 add-out-2 c = search needs
 
--- src/fields.rt:28:9
 slice-write-out-3 : tie.Need-slice-write-out-3
 slice-write-out-3 c = simp length-set (omega arith)
 
--- src/fields.rt:29:18
 add-out-3 : tie.Need-add-out-3
 add-out-3 c = search needs
 
--- src/fields.rt:29:9
 slice-write-out-4 : tie.Need-slice-write-out-4
 slice-write-out-4 c = simp length-set (omega arith)
 
--- src/fields.rt:30:9
 same-length-2 : tie.Need-same-length-2
 same-length-2 c = search needs
 
--- src/fields.rt:30:9
 returns-2 : tie.Need-returns-2
 returns-2 c = (field-two _ _ (c .before .before .pre) (c .before .if1 .left) (c .if2 .taken), omega arith)
 
--- src/fields.rt:32:14
 add-out-4 : tie.Need-add-out-4
 add-out-4 c = search needs
 
--- src/fields.rt:32:5
 slice-write-out-5 : tie.Need-slice-write-out-5
 slice-write-out-5 c = simp length-set (omega arith)
 
--- src/fields.rt:33:14
 add-out-5 : tie.Need-add-out-5
 add-out-5 c = search needs
 
--- src/fields.rt:33:5
 slice-write-out-6 : tie.Need-slice-write-out-6
 slice-write-out-6 c = simp length-set (omega arith)
 
--- src/fields.rt:34:14
 add-out-6 : tie.Need-add-out-6
 add-out-6 c = search needs
 
--- src/fields.rt:34:5
 slice-write-out-7 : tie.Need-slice-write-out-7
 slice-write-out-7 c = search needs
 
--- src/fields.rt:18:1
 same-length-3 : tie.Need-same-length-3
 same-length-3 c = search needs
 
--- src/fields.rt:18:1
 returns-3 : tie.Need-returns-3
 returns-3 c = (field-three _ _ (c .before .before .pre) (c .if2 .left) (omega arith), omega arith)
 

@@ -7,43 +7,31 @@ use Rattle.writing.proofs.Digits.{wide-short}
 use Rattle.writing.proofs.Over.{room-rest, then}
 use Rattle.writing.proofs.fields.put_wide_field.Statement.{statement}
 use Rattle.writing.proofs.fields.put_wide_field.Tie as tie
-use Rattle.writing.proofs.fields.put_wide_field.Reads as reads
-use Rattle.writing.proofs.fields.put_wide_field.Lts as lts
-use Rattle.writing.proofs.fields.put_byte.Reads as put-byte-reads
-use Rattle.writing.proofs.fields.write_number.Reads as write-number-reads
 
--- src/fields.rt:56:9
 put-byte-requires : tie.Need-put-byte-requires
 put-byte-requires c κs = search needs
 
--- src/fields.rt:57:26
 sub-write-number : tie.Need-sub-write-number
 sub-write-number c = search needs
 
--- src/fields.rt:57:26
 part-write-number-start : tie.Need-part-write-number-start
 part-write-number-start c = search needs
 
--- src/fields.rt:57:26
 part-write-number-end : tie.Need-part-write-number-end
 part-write-number-end c = search needs
 
--- src/fields.rt:57:9
 write-number-requires : tie.Need-write-number-requires
 write-number-requires c κs =
     room-rest (44 ∷ []) (decimal (c .before .before .before .before .before .before .args .n)) (now (c .before .before .before .before .before .before .args .out)) _ _
     (omega (arith, wide-short (c .before .before .before .before .before .before .args .n) (omega arith))) (c .before .before .before .put-byte .ensures)
 
--- src/fields.rt:58:5
 add-result : tie.Need-add-result
 add-result c =
     omega (arith, wide-short (c .before .before .before .before .before .before .before .before .before .args .n) (omega arith), c .before .before .before .before .before .before .put-byte .ensures .len, c .before .before .write-number .ensures .len)
 
--- src/fields.rt:52:1
 same-length : tie.Need-same-length
 same-length c = search needs
 
--- src/fields.rt:52:1
 returns : tie.Need-returns
 returns c = (
   then _ _ _ _ _ _ _ (c .before .before .before .before .before .before .put-byte .ensures) (c .before .before .write-number .ensures),

@@ -2,28 +2,19 @@ use borrow.Author.Needs.{needs}
 use native.Mathlib.Omega.{arith}
 use Rattle.writing.proofs.lines.put_edge.Statement.{statement}
 use Rattle.writing.proofs.lines.put_edge.Tie as tie
-use Rattle.writing.proofs.lines.put_edge.Reads as reads
-use Rattle.writing.proofs.lines.put_edge.Lts as lts
-use Rattle.writing.proofs.lines.order_digit.Reads as order-digit-reads
-use Rattle.writing.proofs.lines.put_line.Reads as put-line-reads
 
--- src/lines.rt:48:31
 order-digit-requires : tie.Need-order-digit-requires
 order-digit-requires c κs = search needs
 
--- src/lines.rt:49:23
 slice-aggregate-put-line : tie.Need-slice-aggregate-put-line
 slice-aggregate-put-line c = search needs
 
--- src/lines.rt:49:5
 put-line-requires : tie.Need-put-line-requires
 put-line-requires c κs = search needs
 
--- src/lines.rt:44:1
 same-length : tie.Need-same-length
 same-length c = search needs
 
--- src/lines.rt:44:1
 returns : tie.Need-returns
 returns c = (rw (← c .before .before .before .before .before .order-digit .ensures) (c .before .before .put-line .ensures .0), omega arith)
 

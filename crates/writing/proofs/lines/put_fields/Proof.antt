@@ -9,9 +9,6 @@ use Rattle.writing.proofs.Over.{no-turn, turn, all-turns}
 use borrow.Author.Needs.{needs}
 use Rattle.writing.proofs.lines.put_fields.Statement.{statement}
 use Rattle.writing.proofs.lines.put_fields.Tie as tie
-use Rattle.writing.proofs.lines.put_fields.Reads as reads
-use Rattle.writing.proofs.lines.put_fields.Lts as lts
-use Rattle.writing.proofs.fields.put_field.Reads as put-field-reads
 
 abbrev Inv-loop : tie.InvT-loop
 Inv-loop out₀ ns len₀ i₀ out len i =
@@ -20,43 +17,33 @@ Inv-loop out₀ ns len₀ i₀ out len i =
 abbrev μ-loop : tie.MeasureT-loop
 μ-loop out₀ ns len₀ i₀ out len i = length ns - i
 
--- src/lines.rt:18:5
 loop-holds : tie.Need-loop-holds Inv-loop μ-loop
 loop-holds c = (omega arith, omega arith, omega arith, no-turn field (now (c .before .before .args .ns)) _)
 
--- src/lines.rt:19:27
 sub-put-field : tie.Need-sub-put-field Inv-loop μ-loop
 sub-put-field c = search needs
 
--- src/lines.rt:19:27
 part-put-field-start : tie.Need-part-put-field-start Inv-loop μ-loop
 part-put-field-start c = search needs
 
--- src/lines.rt:19:27
 part-put-field-end : tie.Need-part-put-field-end Inv-loop μ-loop
 part-put-field-end c = search needs
 
--- src/lines.rt:19:44
 shared-slice-read-put-field : tie.Need-shared-slice-read-put-field Inv-loop μ-loop
 shared-slice-read-put-field c = search needs
 
--- src/lines.rt:19:13
 put-field-requires : tie.Need-put-field-requires Inv-loop μ-loop
 put-field-requires c κs = search needs
 
--- src/lines.rt:20:15
 add-len : tie.Need-add-len Inv-loop μ-loop
 add-len c = search needs
 
--- src/lines.rt:21:13
 add-i : tie.Need-add-i Inv-loop μ-loop
 add-i c = search needs
 
--- src/lines.rt:18:5
 loop-less : tie.Need-loop-less Inv-loop μ-loop
 loop-less c = search needs
 
--- src/lines.rt:18:5
 loop-again : tie.Need-loop-again Inv-loop μ-loop
 loop-again c = (
   omega arith,
@@ -65,11 +52,9 @@ loop-again c = (
   turn field (now (c .before .before .before .before .before .before .before .before .before .args .ns)) (c .before .before .before .before .before .before .loop .i) 0 _ _ _ _ _ (c .before .before .before .before .before .loop-test .taken) (c .before .before .before .before .before .before .loop .inv .3) (c .before .before .put-field .ensures .0),
 )
 
--- src/lines.rt:12:1
 same-length : tie.Need-same-length Inv-loop μ-loop
 same-length c = search needs
 
--- src/lines.rt:12:1
 returns : tie.Need-returns Inv-loop μ-loop
 returns c = (all-turns field (now (c .before .before .before .before .args .ns)) (c .before .loop .i) _ _ _ (c .loop-test .left) (c .before .loop .inv .3), omega arith)
 

@@ -4,60 +4,43 @@ use Rattle.plan.specs.Text.{line}
 use Rattle.writing.proofs.Over.{then}
 use Rattle.writing.proofs.lines.put_line.Statement.{statement}
 use Rattle.writing.proofs.lines.put_line.Tie as tie
-use Rattle.writing.proofs.lines.put_line.Reads as reads
-use Rattle.writing.proofs.lines.put_line.Lts as lts
-use Rattle.writing.proofs.fields.put_byte.Reads as put-byte-reads
-use Rattle.writing.proofs.lines.put_fields.Reads as put-fields-reads
 
--- src/lines.rt:31:9
 put-byte-requires : tie.Need-put-byte-requires
 put-byte-requires c κs = search needs
 
--- src/lines.rt:32:28
 sub-put-fields : tie.Need-sub-put-fields
 sub-put-fields c = search needs
 
--- src/lines.rt:32:28
 part-put-fields-start : tie.Need-part-put-fields-start
 part-put-fields-start c = search needs
 
--- src/lines.rt:32:28
 part-put-fields-end : tie.Need-part-put-fields-end
 part-put-fields-end c = search needs
 
--- src/lines.rt:32:17
 put-fields-requires : tie.Need-put-fields-requires
 put-fields-requires c κs = search needs
 
--- src/lines.rt:32:13
 add-b : tie.Need-add-b
 add-b c = search needs
 
--- src/lines.rt:33:18
 sub-put-byte : tie.Need-sub-put-byte
 sub-put-byte c = search needs
 
--- src/lines.rt:33:18
 part-put-byte-start : tie.Need-part-put-byte-start
 part-put-byte-start c = search needs
 
--- src/lines.rt:33:18
 part-put-byte-end : tie.Need-part-put-byte-end
 part-put-byte-end c = search needs
 
--- src/lines.rt:33:9
 put-byte-requires-2 : tie.Need-put-byte-requires-2
 put-byte-requires-2 c κs = search needs
 
--- src/lines.rt:33:5
 add-result : tie.Need-add-result
 add-result c = search needs
 
--- src/lines.rt:27:1
 same-length : tie.Need-same-length
 same-length c = search needs
 
--- src/lines.rt:27:1
 returns : tie.Need-returns
 unfolding line
 returns c = (

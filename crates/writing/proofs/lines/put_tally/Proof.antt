@@ -6,100 +6,73 @@ use Rattle.writing.proofs.Over.{then}
 use Rattle.writing.proofs.Tally.{tally-line}
 use Rattle.writing.proofs.lines.put_tally.Statement.{statement}
 use Rattle.writing.proofs.lines.put_tally.Tie as tie
-use Rattle.writing.proofs.lines.put_tally.Reads as reads
-use Rattle.writing.proofs.lines.put_tally.Lts as lts
-use Rattle.writing.proofs.fields.put_byte.Reads as put-byte-reads
-use Rattle.writing.proofs.fields.put_wide_field.Reads as put-wide-field-reads
 
--- src/lines.rt:51:9
 put-byte-requires : tie.Need-put-byte-requires
 put-byte-requires c κs = search needs
 
--- src/lines.rt:52:32
 sub-put-wide-field : tie.Need-sub-put-wide-field
 sub-put-wide-field c = search needs
 
--- src/lines.rt:52:32
 part-put-wide-field-start : tie.Need-part-put-wide-field-start
 part-put-wide-field-start c = search needs
 
--- src/lines.rt:52:32
 part-put-wide-field-end : tie.Need-part-put-wide-field-end
 part-put-wide-field-end c = search needs
 
--- src/lines.rt:52:17
 put-wide-field-requires : tie.Need-put-wide-field-requires
 put-wide-field-requires c κs = search needs
 
--- src/lines.rt:52:13
 add-b : tie.Need-add-b
 add-b c = search needs
 
--- src/lines.rt:53:32
 sub-put-wide-field-2 : tie.Need-sub-put-wide-field-2
 sub-put-wide-field-2 c = search needs
 
--- src/lines.rt:53:32
 part-put-wide-field-start-2 : tie.Need-part-put-wide-field-start-2
 part-put-wide-field-start-2 c = search needs
 
--- src/lines.rt:53:32
 part-put-wide-field-end-2 : tie.Need-part-put-wide-field-end-2
 part-put-wide-field-end-2 c = search needs
 
--- src/lines.rt:53:17
 put-wide-field-requires-2 : tie.Need-put-wide-field-requires-2
 put-wide-field-requires-2 c κs = search needs
 
--- src/lines.rt:53:13
 add-c : tie.Need-add-c
 add-c c = search needs
 
--- src/lines.rt:54:32
 sub-put-wide-field-3 : tie.Need-sub-put-wide-field-3
 sub-put-wide-field-3 c = search needs
 
--- src/lines.rt:54:32
 part-put-wide-field-start-3 : tie.Need-part-put-wide-field-start-3
 part-put-wide-field-start-3 c = search needs
 
--- src/lines.rt:54:32
 part-put-wide-field-end-3 : tie.Need-part-put-wide-field-end-3
 part-put-wide-field-end-3 c = search needs
 
--- src/lines.rt:54:17
 put-wide-field-requires-3 : tie.Need-put-wide-field-requires-3
 put-wide-field-requires-3 c κs = search needs
 
--- src/lines.rt:54:13
 add-d : tie.Need-add-d
 add-d c = search needs
 
--- src/lines.rt:55:18
 sub-put-byte : tie.Need-sub-put-byte
 sub-put-byte c = search needs
 
--- src/lines.rt:55:18
 part-put-byte-start : tie.Need-part-put-byte-start
 part-put-byte-start c = search needs
 
--- src/lines.rt:55:18
 part-put-byte-end : tie.Need-part-put-byte-end
 part-put-byte-end c = search needs
 
--- src/lines.rt:55:9
 put-byte-requires-2 : tie.Need-put-byte-requires-2
 put-byte-requires-2 c κs = search needs
 
--- src/lines.rt:55:5
 add-result : tie.Need-add-result
 add-result c = search needs
 
--- src/lines.rt:47:1
 same-length : tie.Need-same-length
 same-length c = search needs
 
--- src/lines.rt:47:1
 returns : tie.Need-returns
 unfolding line concat-map
 returns c = (

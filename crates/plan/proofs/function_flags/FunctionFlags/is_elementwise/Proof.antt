@@ -1,19 +1,13 @@
 use borrow.Author.Needs.{needs}
 use Rattle.plan.proofs.function_flags.FunctionFlags.is_elementwise.Statement.{statement}
 use Rattle.plan.proofs.function_flags.FunctionFlags.is_elementwise.Tie as tie
-use Rattle.plan.proofs.function_flags.FunctionFlags.is_elementwise.Reads as reads
-use Rattle.plan.proofs.function_flags.FunctionFlags.is_elementwise.Lts as lts
-use Rattle.plan.proofs.function_flags.FunctionFlags.contains.Reads as contains-reads
 
--- src/function_flags.rt:34:9
 contains-requires : tie.Need-contains-requires
 contains-requires c κs = search needs
 
--- src/function_flags.rt:35:15
 contains-requires-2 : tie.Need-contains-requires-2
 contains-requires-2 c κs = search needs
 
--- src/function_flags.rt:31:5
 returns : tie.Need-returns
 returns c = rw (c .contains2 .ensures, c .before .contains .ensures)
 

@@ -3,19 +3,13 @@ use Rattle.plan.proofs.function_flags.FunctionFlags.terminates_input_or
   statement,
 }
 use Rattle.plan.proofs.function_flags.FunctionFlags.terminates_input_order.Tie as tie
-use Rattle.plan.proofs.function_flags.FunctionFlags.terminates_input_order.Reads as reads
-use Rattle.plan.proofs.function_flags.FunctionFlags.terminates_input_order.Lts as lts
-use Rattle.plan.proofs.function_flags.FunctionFlags.contains.Reads as contains-reads
 
--- src/function_flags.rt:49:9
 contains-requires : tie.Need-contains-requires
 contains-requires c κs = search needs
 
--- src/function_flags.rt:50:15
 contains-requires-2 : tie.Need-contains-requires-2
 contains-requires-2 c κs = search needs
 
--- src/function_flags.rt:46:5
 returns : tie.Need-returns
 returns c = rw (c .contains2 .ensures, c .before .contains .ensures)
 

@@ -1,0 +1,91 @@
+use mathlib.Core.Path.{_≡_}
+use denote.Ref.{now}
+use Prim.Native.Nat.{_*_, _-_, _≤_}
+use native.Mathlib.Omega.{arith}
+use borrow.Author.Needs.{needs}
+use lib.ListN.{length}
+use Rattle.plan.specs.Lists.{concat-map}
+use Rattle.plan.specs.Text.{edge-line}
+use Rattle.plan.specs.Stored.{table}
+use Rattle.writing.specs.Blocks.{stored-edge, stored-edges}
+use Rattle.writing.specs.Wrote.{Wrote}
+use Rattle.writing.proofs.EdgeLine.{edge-wrote}
+use Rattle.writing.proofs.Over.{no-entry, next-entry, all-entries}
+use Rattle.writing.proofs.blocks.put_edges.Statement.{statement}
+use Rattle.writing.proofs.blocks.put_edges.Tie as tie
+
+abbrev Inv-loop : tie.InvT-loop
+Inv-loop out₀ consumer slot unordered n len₀ i₀ out len i =
+    (i ≤ n) × (len ≤ 14 * i) × (length out ≡ length out₀) × Wrote (concat-map edge-line (table (stored-edge consumer slot unordered) 0 i)) out₀ out len
+
+abbrev μ-loop : tie.MeasureT-loop
+μ-loop out₀ consumer slot unordered n len₀ i₀ out len i = n - i
+
+loop-holds : tie.Need-loop-holds Inv-loop μ-loop
+loop-holds c = (omega arith, omega arith, omega arith, no-entry edge-line (stored-edge (now (c .before .args .consumer)) (now (c .before .args .slot)) (now (c .before .args .unordered))) _)
+
+sub-put-edge : tie.Need-sub-put-edge Inv-loop μ-loop
+sub-put-edge c = search needs
+
+part-put-edge-start : tie.Need-part-put-edge-start Inv-loop μ-loop
+part-put-edge-start c = search needs
+
+part-put-edge-end : tie.Need-part-put-edge-end Inv-loop μ-loop
+part-put-edge-end c = search needs
+
+element-copy-out-put-edge : tie.Need-element-copy-out-put-edge Inv-loop μ-loop
+element-copy-out-put-edge c = search needs
+
+element-copy-out-put-edge-2 : tie.Need-element-copy-out-put-edge-2 Inv-loop μ-loop
+element-copy-out-put-edge-2 c = search needs
+
+element-copy-out-put-edge-3 : tie.Need-element-copy-out-put-edge-3 Inv-loop μ-loop
+element-copy-out-put-edge-3 c = search needs
+
+put-edge-requires : tie.Need-put-edge-requires Inv-loop μ-loop
+put-edge-requires c κs = search needs
+
+add-len : tie.Need-add-len Inv-loop μ-loop
+add-len c = search needs
+
+add-i : tie.Need-add-i Inv-loop μ-loop
+add-i c = search needs
+
+loop-less : tie.Need-loop-less Inv-loop μ-loop
+loop-less c = search needs
+
+loop-again : tie.Need-loop-again Inv-loop μ-loop
+loop-again c = (
+  omega arith,
+  omega arith,
+  search needs,
+  next-entry edge-line (stored-edge (now (c .before .before .before .before .before .before .before .before .before .before .args .consumer)) (now (c .before .before .before .before .before .before .before .before .before .before .args .slot)) (now (c .before .before .before .before .before .before .before .before .before .before .args .unordered))) (c .before .before .before .before .before .before .before .before .loop .i) _ _ _ _ _ (c .before .before .before .before .before .before .before .before .loop .inv .3) (edge-wrote (now (c .before .before .before .before .before .before .before .before .before .before .args .consumer)) (now (c .before .before .before .before .before .before .before .before .before .before .args .slot)) (now (c .before .before .before .before .before .before .before .before .before .before .args .unordered)) _ _ _ _ (c .before .before .put-edge .ensures .0)),
+)
+
+same-length : tie.Need-same-length Inv-loop μ-loop
+same-length c = search needs
+
+returns : tie.Need-returns Inv-loop μ-loop
+unfolding stored-edges
+returns c = (all-entries edge-line (stored-edge (now (c .before .before .before .args .consumer)) (now (c .before .before .before .args .slot)) (now (c .before .before .before .args .unordered))) (c .before .before .before .args .n) (c .before .loop .i) _ _ _ (omega arith) (c .before .loop .inv .3), omega arith)
+
+pub put-edges-spec : {M : Type 1} → statement M
+put-edges-spec =
+    tie.close
+    (tie.spec
+    Inv-loop
+    μ-loop
+    loop-holds
+    sub-put-edge
+    part-put-edge-start
+    part-put-edge-end
+    element-copy-out-put-edge
+    element-copy-out-put-edge-2
+    element-copy-out-put-edge-3
+    put-edge-requires
+    add-len
+    add-i
+    loop-less
+    loop-again
+    same-length
+    returns)
