@@ -3,3 +3,6 @@ pub mod Booleans
 pub mod Taken
 pub mod Walks
 pub mod Visits
+pub mod Sums
+pub mod Loads
+pub mod Changes
