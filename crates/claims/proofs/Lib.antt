@@ -6,3 +6,6 @@ pub mod Visits
 pub mod Sums
 pub mod Loads
 pub mod Changes
+pub mod Potential
+pub mod LookAgain
+pub mod LookBound

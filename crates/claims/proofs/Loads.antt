@@ -76,6 +76,9 @@ module _ (es : List Expr) (d : Children-earlier es) where
   pub load-own : (p : ℕ) → 1 ≤ load (mark p) es p
   load-own p = omega (arith, load-kids (mark p) es d p, mark-own p)
 
+  pub outside-own : (v p : ℕ) → load (mark v) es p ≡ 0 → v ≢ p
+  outside-own v p h e = let own = subst (λ n. 1 ≤ load (mark n) es p) (sym e) (load-own p) in omega arith
+
   pub load-kid : (w : ℕ → ℕ) (p q : ℕ) → List·Memᴰ q (kids es p) → load w es q ≤ load w es p
   load-kid w p q m = omega (arith, load-kids w es d p, sum-part (load w es) (kids es p) q m)
 
