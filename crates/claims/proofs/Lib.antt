@@ -9,3 +9,5 @@ pub mod Changes
 pub mod Potential
 pub mod LookAgain
 pub mod LookBound
+pub mod ListBound
+pub mod LooksLogged
