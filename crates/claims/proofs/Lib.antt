@@ -11,3 +11,4 @@ pub mod LookAgain
 pub mod LookBound
 pub mod ListBound
 pub mod LooksLogged
+pub mod Implodes
