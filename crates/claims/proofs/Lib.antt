@@ -12,3 +12,5 @@ pub mod LookBound
 pub mod ListBound
 pub mod LooksLogged
 pub mod Implodes
+pub mod Tables
+pub mod Once
