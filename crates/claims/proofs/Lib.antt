@@ -14,3 +14,6 @@ pub mod LooksLogged
 pub mod Implodes
 pub mod Tables
 pub mod Once
+pub mod Rules
+pub mod VisitLooks
+pub mod LooksBounded

@@ -1,11 +1,11 @@
 -- Every look keeps to what looks cost.
 use mathlib.Core.Path.{_≡_, refl, ap, sym, _∙_, subst}
 use mathlib.Core.Logic.{_≢_}
-use Prim.Native.Nat.{ℕ, zero, suc, _+_, _-_, _≤_, _<_}
+use Prim.Native.Nat.{ℕ, zero, suc, _+_, _-_, _≤_}
 use native.Mathlib.Omega.{arith}
-use mathlib.Core.Bool.{Bool, true, false, _&&_, _||_, not}
+use mathlib.Core.Bool.{Bool, true, false, _&&_, _||_}
 use mathlib.Core.Option.{Option, none, some}
-use mathlib.Core.List.{List, [], _∷_, _++_, List·Memᴰ}
+use mathlib.Core.List.{List, [], _∷_, List·Memᴰ}
 use lib.Dec.{T, eqb, eqb-refl}
 use lib.ListN.{getD, set, take, drop}
 use lib.Seq.{getD-set-same, getD-set-other}
@@ -20,8 +20,8 @@ use Rattle.claims.proofs.Booleans.{and-left}
 use Rattle.claims.proofs.Sums.{sum-part, sum-none, mark}
 use Rattle.claims.proofs.Loads.{kids, load, size, load-kids, later-none, outside-own}
 use Rattle.claims.proofs.Changes.{sort?, implode?, Formed, earlier-of, no-change, goes-off, changes-on, changed-formed, implode-inside}
-use Rattle.claims.proofs.Potential.{is-some, seen, weight, Φ, Goes, stays, both, weight-le, sum-Φ-le, Spent, Bounded, Spent-along, Spent-again, spent-along, spent-parts, spent-again, replaced-spent}
-use Rattle.claims.proofs.LookAgain.{Again, looks-again, single-of-children, sum-in-order, of-in-order}
+use Rattle.claims.proofs.Potential.{is-some, seen, weight, Φ, Goes, stays, weight-le, sum-Φ-le, Spent, Bounded, Spent-along, Spent-again, spent-along, spent-parts, spent-again, replaced-spent}
+use Rattle.claims.proofs.LookAgain.{looks-again, single-of-children, sum-in-order, of-in-order}
 
 -- The end of a look: an Implode may be switched off, and the record is cached or not ------------------------------------------
 

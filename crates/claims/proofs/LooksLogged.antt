@@ -1,5 +1,5 @@
 -- The log of the looks: it has an entry for each look that the tally counts, and each is a record of the tree looked at.
-use mathlib.Core.Path.{_≡_, refl, ap, sym, subst}
+use mathlib.Core.Path.{_≡_, subst}
 use mathlib.Core.Logic.{inl, inr}
 use Prim.Native.Nat.{ℕ, zero, suc, _+_, _≤_}
 use native.Mathlib.Omega.{arith}
@@ -13,17 +13,16 @@ use Rattle.plan.specs.declared.aexpr.AExpr.{AExpr}
 use Rattle.plan.specs.declared.orders.ObservableOrders.{ObservableOrders}
 use Rattle.plan.specs.Kinds.{same-aexpr}
 use Rattle.plan.specs.Lists.{if_then_else_, all?, sum}
-use Rattle.plan.specs.Sheet.{Expr, expr-at}
+use Rattle.plan.specs.Sheet.{expr-at}
 use Rattle.plan.specs.Orders.{∅, ExprOrderAcc, no-orders, add, single}
-use Rattle.plan.specs.Look.{Eos, Look, Before, before, after, in-order, check-return-cached, is-replaced, replace-by-input, replace-implode, enter-struct, internal-observe, one-look, look, look-along, look-along-children, look-again, look-whole, look-ended, look-at, simplify-projected-exprs, ALLOW-DEORDER, NO-DEORDER}
-use Rattle.claims.specs.Demand3.{records}
+use Rattle.plan.specs.Look.{Eos, Look, before, after, in-order, check-return-cached, is-replaced, replace-by-input, enter-struct, internal-observe, one-look, look, look-along, look-along-children, look-again, look-whole, look-ended, look-at, simplify-projected-exprs, ALLOW-DEORDER, NO-DEORDER}
 use Rattle.claims.specs.LooksMade.{Made, made-along, made-again, made-whole, made-at, made, made-in-list}
 use Rattle.claims.proofs.Booleans.{and-left}
-use Rattle.claims.proofs.Sums.{sum-part, mark, mark-own}
-use Rattle.claims.proofs.Loads.{kids, load, load-kids, load-own, among-records}
+use Rattle.claims.proofs.Sums.{sum-part, mark}
+use Rattle.claims.proofs.Loads.{kids, load, load-kids, load-own}
 use Rattle.claims.proofs.Changes.{sort?, Formed, earlier-of, Changes, no-change, takes-input, input-formed, changed-formed, changed-load, changed-loads}
 use Rattle.claims.proofs.Potential.{Bounded, spent-along}
-use Rattle.claims.proofs.LookAgain.{looks-again, single-of-children, single-of-list, sum-in-order, of-in-order}
+use Rattle.claims.proofs.LookAgain.{looks-again, single-of-children, single-of-list, sum-in-order}
 use Rattle.claims.proofs.LookBound.{children-spent, look-spent, replaced-sort}
 
 -- of looks at the trees of qs, from s to s′

@@ -5,17 +5,17 @@ use Prim.Native.Nat.{ℕ, zero, suc, _+_, _*_, _≤_, _<_}
 use native.Mathlib.Omega.{arith}
 use native.Mathlib.Nat.{le-refl, le-trans, not-suc-le-zero, mul-le-mul}
 use native.Mathlib.Decide.{decLt}
-use mathlib.Core.Bool.{Bool, true, false, _&&_, _||_, not}
+use mathlib.Core.Bool.{_&&_}
 use mathlib.Core.List.{List, [], _∷_, _++_, List·Memᴰ, List·Memᴰ·head, List·Memᴰ·tail, List·Memᴰ·not-nil, List·Memᴰ·append-cases}
-use lib.Dec.{T, eqb, eqb→eq, ltb, leb, leb→le}
+use lib.Dec.{T, eqb, eqb→eq, ltb, leb→le}
 use lib.ListN.{length, getD, List·getD-eq-default}
-use Rattle.plan.specs.Lists.{all?, sum, concat-map, numbered, times, yes?}
+use Rattle.plan.specs.Lists.{all?, sum, concat-map, numbered, times}
 use Rattle.plan.specs.Sheet.{Expr, Step, Sheet, no-expr, no-step, expr-at, step-at, in-expr-table}
 use Rattle.plan.specs.Faults.{references-right, children-earlier, inputs-earlier, exprs-there, exprs-named, uses-right, use-right, named, cache-ids}
 use Rattle.claims.specs.WellFormed.{WellFormed}
 use Rattle.claims.proofs.Booleans.{and-left, and-right, entry-at, all-at, of-all}
-use Rattle.claims.proofs.Sums.{sum-eq, sum-part, sum-append, sum-concat, sum-below, below-le, below-add, mark, mark-own}
-use Rattle.claims.proofs.Loads.{kids, load, load-kids, load-own}
+use Rattle.claims.proofs.Sums.{sum-append, sum-concat, sum-below, below-le, below-add, mark, mark-own}
+use Rattle.claims.proofs.Loads.{kids, load, load-kids}
 use Rattle.claims.proofs.Tables.{sort-has-input}
 use Rattle.claims.proofs.Changes.{Fits, Formed, earlier-of, nothing-fits}
 

@@ -1,7 +1,7 @@
 -- What looks cost: a look at p makes at most size p + Φ before p − Φ after p looks, where Φ p is the sum of (size v − 1) over the
 -- records v of p's tree that are not cached.
-use mathlib.Core.Path.{_≡_, refl, ap, sym, _∙_, subst}
-use Prim.Native.Nat.{ℕ, zero, suc, _+_, _-_, _≤_, _<_}
+use mathlib.Core.Path.{_≡_, refl, ap, _∙_}
+use Prim.Native.Nat.{ℕ, _+_, _-_, _≤_}
 use native.Mathlib.Omega.{arith}
 use native.Mathlib.Nat.{le-trans}
 use mathlib.Core.Bool.{Bool, true, false, not}
@@ -14,7 +14,7 @@ use Rattle.plan.specs.declared.orders.ObservableOrders.{ObservableOrders}
 use Rattle.plan.specs.Lists.{if_then_else_, sum}
 use Rattle.plan.specs.Sheet.{Expr, no-expr, expr-at}
 use Rattle.plan.specs.Orders.{ExprOrderAcc, add}
-use Rattle.plan.specs.Look.{Eos, cached, Look, look-along, look-again, one-look, with-field, ALLOW-DEORDER, replace-by-input}
+use Rattle.plan.specs.Look.{Eos, cached, Look, look-along, look-again, one-look, ALLOW-DEORDER, replace-by-input}
 use Rattle.claims.proofs.Sums.{sum-le, sum-part, mark}
 use Rattle.claims.proofs.Loads.{load, size, load-le, outside-own}
 use Rattle.claims.proofs.Changes.{sort?, Formed, earlier-of, Changes, no-change, takes-input, changes-on, changed-formed, changed-load, changed-loads, input-of, input-formed, input-size}

@@ -1,5 +1,5 @@
 -- Sums over lists, and over the numbers below one.
-use mathlib.Core.Path.{_≡_, refl, ap, ap₂, sym}
+use mathlib.Core.Path.{_≡_, refl, ap, ap₂}
 use Prim.Native.Nat.{ℕ, zero, suc, _+_, _≤_, _<_}
 use native.Mathlib.Omega.{arith}
 use native.Mathlib.Nat.{add-le-add, not-suc-le-zero}

@@ -7,10 +7,9 @@ use mathlib.Core.List.{List, [], _∷_}
 use lib.Dec.{T, eqb, eqb→eq, leb, leb→le, lit≤}
 use lib.ListN.{length, getD}
 use Rattle.plan.specs.declared.aexpr.AExpr.{AExpr}
-use Rattle.plan.specs.declared.ir.IR.{IR}
-use Rattle.plan.specs.Kinds.{aexpr-number, same-aexpr, ir-number, same-ir}
+use Rattle.plan.specs.Kinds.{aexpr-number, same-aexpr}
 use Rattle.plan.specs.Lists.{all?, yes?}
-use Rattle.plan.specs.Sheet.{Expr, Step, expr-table, step-table, in-expr-table, in-step-table}
+use Rattle.plan.specs.Sheet.{Expr, expr-table, in-expr-table}
 use Rattle.claims.proofs.Booleans.{and-left, and-right}
 use Rattle.claims.proofs.Changes.{sort?}
 
