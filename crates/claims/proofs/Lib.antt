@@ -17,3 +17,4 @@ pub mod Once
 pub mod Rules
 pub mod VisitLooks
 pub mod LooksBounded
+pub mod Fuel
