@@ -18,3 +18,5 @@ pub mod Rules
 pub mod VisitLooks
 pub mod LooksBounded
 pub mod Fuel
+pub mod Scalars
+pub mod ArenaLimit

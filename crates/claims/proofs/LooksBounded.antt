@@ -15,7 +15,7 @@ use Rattle.claims.specs.WellFormed.{Accepted, WellFormed}
 use Rattle.claims.specs.Demand3.{Down, Up, Looks-bounded}
 use Rattle.claims.proofs.Taken.{well-formed}
 use Rattle.claims.proofs.Walks.{two-ways, walk-keeps, trace-keeps}
-use Rattle.claims.proofs.Sums.{sum-eq, sum-le, sum-part, sum-at, sum-set, sum-below}
+use Rattle.claims.proofs.Sums.{sum-eq, sum-le, sum-part, sum-at, sum-set, sum-set-le, sum-below}
 use Rattle.claims.proofs.Loads.{load}
 use Rattle.claims.proofs.Changes.{Formed, changed-formed, changed-length, changed-loads}
 use Rattle.claims.proofs.Implodes.{old-loads}
@@ -47,7 +47,7 @@ module _ (r : Run) (sound : Sound r) where
   once-of-step n w =
       le-trans (sum-at (step-load w (r .arena)) (r .steps) no-step (no-load w (r .arena)) n) (sound .once w)
 
-  once-of-member : (s : Step) → List·Memᴰ s (r .steps) → Once-in (entries s) (r .arena)
+  pub once-of-member : (s : Step) → List·Memᴰ s (r .steps) → Once-in (entries s) (r .arena)
   once-of-member s m w = le-trans (sum-part (step-load w (r .arena)) (r .steps) s m) (sound .once w)
 
   pub looks-bounded-in : (n : ℕ) → Looks-bounded n r
@@ -69,12 +69,32 @@ module _ (r : Run) (sound : Sound r) where
   unfolding unlink-node
   sound-unlinked n = record { formed = sound .formed; once = unlinked-once (out-edge n (r .edges) .consumer) _ refl }
 
-  -- by the loads as the looks of the visit begin
-  settled-once : (n : ℕ) (w : ℕ → ℕ)
-      → let l = looked-in n r in
-      sum (step-load w (l .end .expr-arena)) (set (r .steps) n (ruling n r .0)) ≤ sum-below w (length (l .end .expr-arena))
+  -- as the looks of a visit begin
+  pub once-started : (n : ℕ) → let l = looked-in n r in Once (l .start .expr-arena) (set (r .steps) n (l .step))
+  unfolding looked-in
+  once-started n w =
+      let s = step-at (r .steps) n in
+      let e = around n (r .edges) in
+      let es = r .arena in
+      let l = looks-of s e es (r .looks) in
+      let es′ = l .start .expr-arena in
+      let own = once-of-step n in
+      let i = imploded-start s e es (r .looks) (sound .formed) own in
+      let same : (x : Step) → Once-in (entries x) es → step-load w es′ x ≡ step-load w es x =
+      λ x once. old-loads (length es) es es′ (sound .formed) (i .formed) (i .old) w (entries x) (inside-if-once (entries x) es (sound .formed) once) in
+      omega (
+        arith,
+        sum-set (step-load w es′) (r .steps) no-step n (l .step),
+        no-load w es′,
+        sum-eq (step-load w es′) (step-load w es) (r .steps) (λ x m. same x (once-of-member x m)),
+        same s own,
+        loads-start s e es (r .looks) (sound .formed) own w,
+        sound .once w,
+      )
+
+  once-settled : (n : ℕ) → Once (looked-in n r .end .expr-arena) (set (r .steps) n (ruling n r .0))
   unfolding looked-in ruling
-  settled-once n w =
+  once-settled n w =
       let s = step-at (r .steps) n in
       let e = around n (r .edges) in
       let es = r .arena in
@@ -84,19 +104,12 @@ module _ (r : Run) (sound : Sound r) where
       let own = once-of-step n in
       let i = imploded-start s e es (r .looks) (sound .formed) own in
       let c = looks-change s e es (r .looks) (sound .formed) own in
-      let same : (x : Step) → Once-in (entries x) es → step-load w es′ x ≡ step-load w es x =
-      λ x once. old-loads (length es) es es′ (sound .formed) (i .formed) (i .old) w (entries x) (inside-if-once (entries x) es (sound .formed) once) in
       omega (
         arith,
         sum-le (step-load w (l .end .expr-arena)) (step-load w es′) (set (r .steps) n s′) (λ x _. changed-loads c (i .formed) w (entries x)),
-        sum-set (step-load w es′) (r .steps) no-step n s′,
-        no-load w es′,
-        sum-eq (step-load w es′) (step-load w es) (r .steps) (λ x m. same x (once-of-member x m)),
-        same s own,
-        rule-load w es′ (l .step) s′ (ruled (l .step) e (l .observable) (l .step .kind)),
-        loads-start s e es (r .looks) (sound .formed) own w,
+        sum-set-le (step-load w es′) (r .steps) n s′ (l .step) (rule-load w es′ (l .step) s′ (ruled (l .step) e (l .observable) (l .step .kind))),
+        once-started n w,
         ap (sum-below w) (changed-length c),
-        sound .once w,
       )
 
   sound-settled : (n : ℕ) → Sound (settled n (one-visit r))
@@ -106,7 +119,7 @@ module _ (r : Run) (sound : Sound r) where
       let e = around n (r .edges) in
       let i = imploded-start s e (r .arena) (r .looks) (sound .formed) (once-of-step n) in
       let c = looks-change s e (r .arena) (r .looks) (sound .formed) (once-of-step n) in
-      record { formed = changed-formed c (i .formed); once = settled-once n }
+      record { formed = changed-formed c (i .formed); once = once-settled n }
 
 pub sound-visit : (n : ℕ) (ns : List ℕ) (r r′ : Run) → Sound r → simplify-ir-node-orders n r ≡ done r′ → Sound r′
 sound-visit n ns r r′ sound e =

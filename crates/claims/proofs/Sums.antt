@@ -1,11 +1,12 @@
 -- Sums over lists, and over the numbers below one.
 use mathlib.Core.Path.{_≡_, refl, ap, ap₂}
+use mathlib.Core.Logic.{_⊎_, inl, inr}
 use Prim.Native.Nat.{ℕ, zero, suc, _+_, _≤_, _<_}
 use native.Mathlib.Omega.{arith}
 use native.Mathlib.Nat.{add-le-add, not-suc-le-zero}
 use native.Mathlib.Decide.{ℕ-discrete, decLt}
 use mathlib.Core.Bool.{Bool, true, false}
-use mathlib.Core.List.{List, [], _∷_, _++_, List·Memᴰ, List·Memᴰ·head, List·Memᴰ·tail}
+use mathlib.Core.List.{List, [], _∷_, _++_, List·Memᴰ, List·Memᴰ·head, List·Memᴰ·tail, List·Memᴰ·cases-cons}
 use lib.Dec.{T, eqb, eqb→eq, eqb-refl}
 use lib.ListN.{length, getD, set}
 use Rattle.plan.specs.Lists.{if_then_else_, sum, concat-map, times}
@@ -56,6 +57,31 @@ module _ {A : Type 0} where
   sum-set w [] d i x = omega arith
   sum-set w (y ∷ l) d zero x = omega arith
   sum-set w (y ∷ l) d (suc i) x = omega (arith, sum-set w l d i x)
+
+  pub sum-set-le : (w : A → ℕ) (l : List A) (i : ℕ) (x y : A) → w x ≤ w y → sum w (set l i x) ≤ sum w (set l i y)
+  unfolding sum
+  sum-set-le w [] i x y h = omega arith
+  sum-set-le w (z ∷ l) zero x y h = omega arith
+  sum-set-le w (z ∷ l) (suc i) x y h = omega (arith, sum-set-le w l i x y h)
+
+  sum-new : (w : A → ℕ) (l : List A) (i : ℕ) (y : A) → i < length l → w y ≤ sum w (set l i y)
+  unfolding sum
+  sum-new w [] i y h = absurd (not-suc-le-zero h)
+  sum-new w (z ∷ l) zero y h = omega arith
+  sum-new w (z ∷ l) (suc i) y h = omega (arith, sum-new w l i y (omega arith))
+
+  -- a member is the new entry, or has a part beside it
+  pub sum-beside : (l : List A) (i : ℕ) (y x : A) → i < length l → List·Memᴰ x (set l i y)
+      → (x ≡ y) ⊎ ((w : A → ℕ) → w x + w y ≤ sum w (set l i y))
+  unfolding sum
+  sum-beside [] i y x h m = absurd (not-suc-le-zero h)
+  sum-beside (z ∷ l) zero y x h m =
+      elim (List·Memᴰ·cases-cons m) [ inl e ↦ inl e | inr k ↦ inr (λ w. omega (arith, sum-part w l x k)) ]
+  sum-beside (z ∷ l) (suc i) y x h m =
+      elim (List·Memᴰ·cases-cons m) [
+        | inl e ↦ inr (λ w. omega (arith, ap w e, sum-new w l i y (omega arith)))
+        | inr k ↦ elim (sum-beside l i y x (omega arith) k) [ inl e ↦ inl e | inr f ↦ inr (λ w. omega (arith, f w)) ]
+      ]
 
 pub sum-concat : {A B : Type 0} (w : B → ℕ) (f : A → List B) (l : List A) → sum w (concat-map f l) ≡ sum (λ a. sum w (f a)) l
 unfolding sum concat-map
