@@ -20,3 +20,4 @@ pub mod LooksBounded
 pub mod Fuel
 pub mod Scalars
 pub mod ArenaLimit
+pub mod RunLimits

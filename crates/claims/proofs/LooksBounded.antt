@@ -65,7 +65,7 @@ module _ (r : Run) (sound : Sound r) where
       let f = step-load w (r .arena) in
       omega (arith, sound .once w, sum-set f (r .steps) no-step n s, no-load w (r .arena), ap (sum (load w (r .arena))) i)
 
-  sound-unlinked : (n : ℕ) → Sound (unlink-node n (one-visit r))
+  pub sound-unlinked : (n : ℕ) → Sound (unlink-node n (one-visit r))
   unfolding unlink-node
   sound-unlinked n = record { formed = sound .formed; once = unlinked-once (out-edge n (r .edges) .consumer) _ refl }
 
@@ -112,7 +112,7 @@ module _ (r : Run) (sound : Sound r) where
         ap (sum-below w) (changed-length c),
       )
 
-  sound-settled : (n : ℕ) → Sound (settled n (one-visit r))
+  pub sound-settled : (n : ℕ) → Sound (settled n (one-visit r))
   unfolding settled looked-in ruling
   sound-settled n =
       let s = step-at (r .steps) n in

@@ -1,5 +1,5 @@
 -- The looks of a visit keep to demand 3, where each record is reached at most once from the step's entries.
-use mathlib.Core.Path.{_≡_}
+use mathlib.Core.Path.{_≡_, ap}
 use Prim.Native.Nat.{ℕ, _+_, _≤_}
 use native.Mathlib.Omega.{arith}
 use mathlib.Core.Bool.{Bool, false}
@@ -79,28 +79,27 @@ module _ (s : Step) (e : Around) (es : List Expr) (looks : ℕ) (g : Formed es) 
   pub looks-change : Changes (looked .end .expr-arena) (looked .start .expr-arena)
   looks-change = changes-on (exprs-spent .goes .changes) (aggs-spent .goes .changes)
 
+  -- each list as its own looks begin
+  pub once-exprs : Once-in (looked .step .exprs) (looked .start .expr-arena)
+  once-exprs w =
+      omega (arith, once-start w, sum-append (load w (looked .start .expr-arena)) (looked .step .exprs) (looked .step .aggs))
+
+  pub once-aggs : Once-in (looked .step .aggs) (looked .between .expr-arena)
+  once-aggs w =
+      let c = exprs-spent .goes .changes in
+      omega (
+        arith,
+        once-start w,
+        sum-append (load w (looked .start .expr-arena)) (looked .step .exprs) (looked .step .aggs),
+        changed-loads c (imploded-start .formed) w (looked .step .aggs),
+        ap (sum-below w) (changed-length c),
+      )
+
   pub exprs-bounded : List-bounded (looked .step .exprs) (allow-deordering-top (looked .step) e) (looked .start) (looked .between)
   unfolding looks-of allow-deordering-top
-  exprs-bounded =
-      let es′ = looked .start .expr-arena in
-      list-bounded (s .exprs) (allow-deordering-top s e) (looked .start) (imploded-start .formed)
-      (λ w. omega (arith, once-start w, sum-append (load w es′) (s .exprs) (looked .step .aggs)))
+  exprs-bounded = list-bounded (s .exprs) (allow-deordering-top s e) (looked .start) (imploded-start .formed) once-exprs
 
   pub aggs-bounded : List-bounded (looked .step .aggs) false (looked .between) (looked .end)
   unfolding looks-of
   aggs-bounded =
-      let es′ = looked .start .expr-arena in
-      let i = imploded-start .formed in
-      let c = exprs-spent .goes .changes in
-      list-bounded (looked .step .aggs) false (looked .between) (changed-formed c i)
-      (λ w.
-      subst-below w (changed-length c)
-      (omega (
-        arith,
-        once-start w,
-        sum-append (load w es′) (s .exprs) (looked .step .aggs),
-        changed-loads c i w (looked .step .aggs),
-      )))
-    where
-      subst-below : {n m k : ℕ} (w : ℕ → ℕ) → k ≡ n → m ≤ sum-below w n → m ≤ sum-below w k
-      subst-below w e h = rw e h
+      list-bounded (looked .step .aggs) false (looked .between) (changed-formed (exprs-spent .goes .changes) (imploded-start .formed)) once-aggs
