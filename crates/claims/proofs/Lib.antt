@@ -21,3 +21,4 @@ pub mod Fuel
 pub mod Scalars
 pub mod ArenaLimit
 pub mod RunLimits
+pub mod TextLength
