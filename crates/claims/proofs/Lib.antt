@@ -22,3 +22,4 @@ pub mod Scalars
 pub mod ArenaLimit
 pub mod RunLimits
 pub mod TextLength
+pub mod Printable

@@ -2,14 +2,16 @@
 use mathlib.Core.Path.{_≡_, subst, sym}
 use Prim.Native.Nat.{ℕ, zero, suc, _≤_}
 use native.Mathlib.Omega.{arith}
+use native.Mathlib.Nat.{le-trans}
 use mathlib.Core.Bool.{Bool, true, false, _&&_, _||_, not}
 use mathlib.Core.List.{List, [], _∷_}
 use lib.Dec.{T, eqb, eqb→eq, leb, leb→le, lit≤}
 use lib.ListN.{length, getD}
 use Rattle.plan.specs.declared.aexpr.AExpr.{AExpr}
-use Rattle.plan.specs.Kinds.{aexpr-number, same-aexpr}
+use Rattle.plan.specs.declared.ir.IR.{IR}
+use Rattle.plan.specs.Kinds.{aexpr-number, same-aexpr, ir-number, same-ir}
 use Rattle.plan.specs.Lists.{all?, yes?}
-use Rattle.plan.specs.Sheet.{Expr, expr-table, in-expr-table}
+use Rattle.plan.specs.Sheet.{Expr, Step, expr-table, step-table, in-expr-table, in-step-table}
 use Rattle.claims.proofs.Booleans.{and-left, and-right}
 use Rattle.claims.proofs.Changes.{sort?}
 
@@ -81,3 +83,72 @@ module _ (e : Expr) (t : T (in-expr-table e)) where
       by true b f g u = at 9 (f tt) (lit≤ tt)
       by false true f g u = at 10 (g tt) (lit≤ tt)
       by false false f g u = absurd u
+
+-- Steps ------------------------------------------------------------------------------------------------------------------------
+
+abbrev Step-row : Type 0
+Step-row = ℕ × ℕ × ℕ × ℕ × ℕ × ℕ × ℕ × ℕ
+
+abbrev step-row-of : ℕ → Step-row
+step-row-of k = getD step-table k (0, 0, 0, 0, 0, 0, 0, 0)
+
+abbrev small-step-row : Step-row → Bool
+small-step-row (a, b, c, _, n1, _, n2, n3) = leb a 255 && leb b 255 && leb c 255 && leb n1 8 && leb n2 8 && leb n3 8
+
+step-rows-small : (k : ℕ) → T (small-step-row (step-row-of k))
+unfolding step-table all?
+step-rows-small k = rows-pass small-step-row step-table (0, 0, 0, 0, 0, 0, 0, 0) tt tt k
+
+six : (a b c d e f : Bool) → T (a && b && c && d && e && f) → T a × T b × T c × T d × T e × T f
+six true true true true true true t = (tt, tt, tt, tt, tt, tt)
+six false b c d e f t = absurd t
+six true false c d e f t = absurd t
+six true true false d e f t = absurd t
+six true true true false e f t = absurd t
+six true true true true false f t = absurd t
+six true true true true true false t = absurd t
+
+nine : (a b c d e f g h i : Bool) → T (a && b && c && d && e && f && g && h && i) → T a × T b × T c × T d × T e × T f × T g × T h × T i
+nine true true true true true true true true true t = (tt, tt, tt, tt, tt, tt, tt, tt, tt)
+nine false b c d e f g h i t = absurd t
+nine true false c d e f g h i t = absurd t
+nine true true false d e f g h i t = absurd t
+nine true true true false e f g h i t = absurd t
+nine true true true true false f g h i t = absurd t
+nine true true true true true false g h i t = absurd t
+nine true true true true true true false h i t = absurd t
+nine true true true true true true true false i t = absurd t
+nine true true true true true true true true false t = absurd t
+
+pub record In-step-table (s : Step) : Type 0 where
+  pub a : s .a ≤ 255
+  pub b : s .b ≤ 255
+  pub c : s .c ≤ 255
+  pub few-inputs : length (s .inputs) ≤ 8
+  pub few-exprs : length (s .exprs) ≤ 8
+  pub few-aggs : length (s .aggs) ≤ 8
+
+in-step-row : (s : Step) (r : Step-row) (sink : Bool) → T (small-step-row r)
+    → T
+    (leb (s .a) (r .0) && leb (s .b) (r .1) && leb (s .c) (r .2) && leb (r .3) (length (s .inputs)) && leb (length (s .inputs)) (r .4)
+    && leb (r .5) (length (s .exprs)) && leb (length (s .exprs)) (r .6) && leb (length (s .aggs)) (r .7) && sink)
+    → In-step-table s
+in-step-row s r sink small t =
+    let x = six (leb (r .0) 255) (leb (r .1) 255) (leb (r .2) 255) (leb (r .4) 8) (leb (r .6) 8) (leb (r .7) 8) small in
+    let y =
+    nine (leb (s .a) (r .0)) (leb (s .b) (r .1)) (leb (s .c) (r .2)) (leb (r .3) (length (s .inputs))) (leb (length (s .inputs)) (r .4))
+    (leb (r .5) (length (s .exprs))) (leb (length (s .exprs)) (r .6)) (leb (length (s .aggs)) (r .7)) sink t in
+    record {
+      a = le-trans (leb→le (s .a) (r .0) (y .0)) (leb→le (r .0) 255 (x .0));
+      b = le-trans (leb→le (s .b) (r .1) (y .1)) (leb→le (r .1) 255 (x .1));
+      c = le-trans (leb→le (s .c) (r .2) (y .2)) (leb→le (r .2) 255 (x .2));
+      few-inputs = le-trans (leb→le (length (s .inputs)) (r .4) (y .4)) (leb→le (r .4) 8 (x .3));
+      few-exprs = le-trans (leb→le (length (s .exprs)) (r .6) (y .6)) (leb→le (r .6) 8 (x .4));
+      few-aggs = le-trans (leb→le (length (s .aggs)) (r .7) (y .7)) (leb→le (r .7) 8 (x .5));
+    }
+
+pub of-step-table : (s : Step) → T (in-step-table s) → In-step-table s
+unfolding in-step-table
+of-step-table s t =
+    let k = ir-number (s .kind) in
+    in-step-row s (step-row-of k) (not (same-ir (s .kind) IR.Sink && eqb (s .b) 0) || eqb (length (s .exprs)) 0) (step-rows-small k) t
