@@ -22,4 +22,7 @@ pub mod Scalars
 pub mod ArenaLimit
 pub mod RunLimits
 pub mod TextLength
+pub mod Every
 pub mod Printable
+pub mod PrintableStart
+pub mod WithinLimits

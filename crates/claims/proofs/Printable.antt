@@ -1,46 +1,24 @@
 -- What a run prints stays small: the options, children and entries of its records, and the numbers of its edges.
 use mathlib.Core.Path.{_≡_, refl, ap, sym, subst}
 use mathlib.Core.Logic.{inl, inr}
-use Prim.Native.Nat.{ℕ, zero, suc, _+_, _≤_, _<_}
+use Prim.Native.Nat.{ℕ, suc, _≤_, _<_}
 use native.Mathlib.Omega.{arith}
 use mathlib.Core.Bool.{Bool, true, false}
 use mathlib.Core.Option.{Option, none, some}
-use mathlib.Core.List.{List, [], _∷_, _++_, map}
-use lib.ListN.{length, getD, set, length-set}
+use mathlib.Core.List.{List, [], _∷_, _++_}
+use lib.ListN.{length, length-set}
 use Rattle.plan.specs.declared.ir.IR.{IR}
 use Rattle.plan.specs.Kinds.{same-ir}
 use Rattle.plan.specs.Lists.{if_then_else_}
 use Rattle.plan.specs.Sheet.{Expr, Step, done, no-expr, no-step, expr-at, step-at}
 use Rattle.plan.specs.Graph.{Edge}
-use Rattle.plan.specs.Visit.{Run, Around, Looked, implode, implode-over, imploded, with-implodes, with-aggs, looks-of, looked-in, ruling, around, out-edge, no-edge, is-into, is-out-of, relinked, with-input, unlink-node, one-visit, settled, simplify-ir-node-orders}
+use Rattle.plan.specs.Visit.{Run, implode, implode-over, imploded, with-implodes, looks-of, looked-in, ruling, around, out-edge, no-edge, is-into, is-out-of, relinked, with-input, unlink-node, one-visit, settled, simplify-ir-node-orders}
 use Rattle.claims.proofs.Walks.{two-ways}
+use Rattle.claims.proofs.Every.{Every, every-set, every-append, every-map}
 use Rattle.claims.proofs.Changes.{Changes, no-change, takes-input, goes-off}
 use Rattle.claims.proofs.Rules.{Small, Ruled, ruled}
 use Rattle.claims.proofs.LooksBounded.{Sound, once-of-step}
 use Rattle.claims.proofs.VisitLooks.{looks-change}
-
--- every entry of a list, and what stands past its end
-module _ {A : Type 0} (P : A → Type 0) (d : A) where
-  abbrev pub Every : List A → Type 0
-  Every l = (i : ℕ) → P (getD l i d)
-
-  pub every-set : (l : List A) (n : ℕ) (x : A) → Every l → P x → Every (set l n x)
-  every-set [] n x h k i = h i
-  every-set (y ∷ l) zero x h k zero = k
-  every-set (y ∷ l) zero x h k (suc i) = h (suc i)
-  every-set (y ∷ l) (suc n) x h k zero = h 0
-  every-set (y ∷ l) (suc n) x h k (suc i) = every-set l n x (λ j. h (suc j)) k i
-
-  pub every-append : (l : List A) (x : A) → Every l → P x → Every (l ++ (x ∷ []))
-  every-append [] x h k zero = k
-  every-append [] x h k (suc i) = h i
-  every-append (y ∷ l) x h k zero = h 0
-  every-append (y ∷ l) x h k (suc i) = every-append l x (λ j. h (suc j)) k i
-
-  pub every-map : (f : A → A) (l : List A) → Every l → ((a : A) → P a → P (f a)) → Every (map f l)
-  every-map f [] h k i = h i
-  every-map f (y ∷ l) h k zero = k y (h 0)
-  every-map f (y ∷ l) h k (suc i) = every-map f l (λ j. h (suc j)) k i
 
 -- Records ----------------------------------------------------------------------------------------------------------------------
 

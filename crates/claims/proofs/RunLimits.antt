@@ -156,19 +156,26 @@ few-implodes es s = by (same-ir (s .kind) IR.GroupBy)
     by true = omega (arith, sum-le (not-scalar es) (λ _. 1) (s .aggs) (λ q _. at-most-one (expr-at es q .scalar)), sum-ones (s .aggs))
     by false = omega arith
 
-module _ (sh : Sheet) (wf : WellFormed sh) (places : length (graph (sh .steps) .0) ≤ 288) (edges : length (graph (sh .steps) .1) ≤ 256) where
-  neither : (a b : Bool) → T (not (a || b)) → T (not a) × T (not b)
-  neither true b t = absurd t
-  neither false b t = (tt, t)
+neither : (a b : Bool) → T (not (a || b)) → T (not a) × T (not b)
+neither true b t = absurd t
+neither false b t = (tt, t)
 
+pub few-steps : (sh : Sheet) → WellFormed sh → length (sh .steps) ≤ 32
+unfolding over-limits
+few-steps sh wf = nltb→le 32 (length (sh .steps)) (neither (ltb 32 (length (sh .steps))) (ltb 128 (expr-count sh)) (wf .within-limits) .0)
+
+few-exprs : (sh : Sheet) → WellFormed sh → expr-count sh ≤ 128
+unfolding over-limits
+few-exprs sh wf = nltb→le 128 (expr-count sh) (neither (ltb 32 (length (sh .steps))) (ltb 128 (expr-count sh)) (wf .within-limits) .1)
+
+module _ (sh : Sheet) (wf : WellFormed sh) (places : length (graph (sh .steps) .0) ≤ 288) (edges : length (graph (sh .steps) .1) ≤ 256) where
   within-begin : Within 288 (length (graph (sh .steps) .0)) (begin sh)
-  unfolding begin over-limits expr-count
+  unfolding begin expr-count
   within-begin =
-      let (few-steps, few-exprs) = neither (ltb 32 (length (sh .steps))) (ltb 128 (expr-count sh)) (wf .within-limits) in
       record {
         sound = sound-begin sh wf;
-        room = omega (arith, nltb→le 128 (expr-count sh) few-exprs, sum-le (still-to-append (sh .exprs)) _ (sh .steps) (λ s _. few-implodes (sh .exprs) s));
-        steps = nltb→le 32 (length (sh .steps)) few-steps;
+        room = omega (arith, few-exprs sh wf, sum-le (still-to-append (sh .exprs)) _ (sh .steps) (λ s _. few-implodes (sh .exprs) s));
+        steps = few-steps sh wf;
         edges = edges;
         visits = omega arith;
         looks = omega arith;

@@ -1,12 +1,11 @@
 -- How long the lines of the finished sheet are: numbers below 1000 take at most three digits.
-use mathlib.Core.Path.{_≡_, refl, sym, _∙_}
+use mathlib.Core.Path.{_≡_, refl}
 use Prim.Native.Nat.{ℕ, zero, suc, _+_, _*_, _/_, _%_, _≤_, _<_, _^_}
 use native.Mathlib.Omega.{arith}
-use native.Mathlib.Nat.{le-trans}
 use mathlib.Core.Bool.{Bool, true, false, not}
 use mathlib.Core.List.{List, [], _∷_, _++_, List·Memᴰ, List·Memᴰ·head, List·Memᴰ·tail}
 use lib.Dec.{T, ltb, nltb→le}
-use lib.ListN.{length, getD, length-append}
+use lib.ListN.{length, length-append}
 use Rattle.plan.specs.declared.aexpr.AExpr.{AExpr}
 use Rattle.plan.specs.declared.ir.IR.{IR}
 use Rattle.plan.specs.Kinds.{aexpr-number, ir-number}
@@ -15,7 +14,7 @@ use Rattle.plan.specs.Sheet.{Expr, Step}
 use Rattle.plan.specs.Graph.{Edge}
 use Rattle.plan.specs.Visit.{Run}
 use Rattle.plan.specs.Text.{digits, decimal, line, expr-line, step-line, edge-line, tally-line}
-use Rattle.claims.proofs.Sums.{sum-le, sum-ones, sum-append, sum-concat}
+use Rattle.claims.proofs.Sums.{sum-append}
 
 -- powers of ten
 unfoldable pub ten : ℕ → ℕ
