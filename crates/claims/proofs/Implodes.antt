@@ -43,7 +43,7 @@ module _ (n : ℕ) (es es′ : List Expr) (g : Formed es) (g′ : Formed es′) 
       let same = ap (λ (e : Expr). sum (load w es′) (e .children)) (old q k) in
       omega (arith, load-kids w es (earlier-of es g) q, load-kids w es′ (earlier-of es′ g′) q)
 
-  pub old-load : (q : ℕ) → q < n → load w es′ q ≡ load w es q
+  old-load : (q : ℕ) → q < n → load w es′ q ≡ load w es q
   old-load q h = old-load-below (suc q) q (le-refl _) h
 
   pub old-loads : (qs : List ℕ) → ((q : ℕ) → List·Memᴰ q qs → q < n) → sum (load w es′) qs ≡ sum (load w es) qs

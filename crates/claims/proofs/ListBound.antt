@@ -24,31 +24,32 @@ use Rattle.claims.proofs.LookBound.{look-spent}
 
 -- Pairs of a record and one below it -----------------------------------------------------------------------------------------
 
-module _ (es : List Expr) (d : Children-earlier es) where
-  unfoldable pub below : ℕ → ℕ
-  below v = size es v - 1
+-- the records below v
+below : List Expr → ℕ → ℕ
+below es v = size es v - 1
 
+module _ (es : List Expr) (d : Children-earlier es) where
   -- n records have at most n × (n − 1) ÷ 2 of them
-  forest-pairs : (cs : List ℕ) → ((c : ℕ) → List·Memᴰ c cs → 2 * load below es c + size es c ≤ size es c * size es c)
-      → 2 * sum (load below es) cs + sum (size es) cs ≤ sum (size es) cs * sum (size es) cs
+  forest-pairs : (cs : List ℕ) → ((c : ℕ) → List·Memᴰ c cs → 2 * load (below es) es c + size es c ≤ size es c * size es c)
+      → 2 * sum (load (below es) es) cs + sum (size es) cs ≤ sum (size es) cs * sum (size es) cs
   unfolding sum
   forest-pairs [] h = omega arith
   forest-pairs (c ∷ cs) h = omega (arith, h c (List·Memᴰ·head refl), forest-pairs cs (λ a m. h a (List·Memᴰ·tail m)))
 
-  tree-pairs : (f q : ℕ) → q < f → 2 * load below es q + size es q ≤ size es q * size es q
+  tree-pairs : (f q : ℕ) → q < f → 2 * load (below es) es q + size es q ≤ size es q * size es q
   unfolding below
   tree-pairs zero q h = absurd (not-suc-le-zero h)
   tree-pairs (suc f) q h =
       let i = load-kids (λ _. 1) es d q in
       let k = forest-pairs (kids es q) (λ c m. tree-pairs f c (omega (arith, d q c m))) in
-      rw (load-kids below es d q, i) (omega (arith, k))
+      rw (load-kids (below es) es d q, i) (omega (arith, k))
 
-  pairs : (cs : List ℕ) → 2 * sum (load below es) cs + sum (size es) cs ≤ sum (size es) cs * sum (size es) cs
+  pairs : (cs : List ℕ) → 2 * sum (load (below es) es) cs + sum (size es) cs ≤ sum (size es) cs * sum (size es) cs
   pairs cs = forest-pairs cs (λ c m. tree-pairs (suc c) c (le-refl _))
 
-weight-below : (es : List Expr) (d : Children-earlier es) (c : List (ℕ × ObservableOrders)) (v : ℕ) → weight es c v ≤ below es d v
+weight-below : (es : List Expr) (c : List (ℕ × ObservableOrders)) (v : ℕ) → weight es c v ≤ below es v
 unfolding weight below
-weight-below es d c v = by (is-some (cached v c))
+weight-below es c v = by (is-some (cached v c))
   where
     by : (b : Bool) → (if b then 0 else size es v - 1) ≤ size es v - 1
     by true = omega arith
@@ -63,7 +64,7 @@ weight-below es d c v = by (is-some (cached v c))
     omega (
       arith,
       pairs es d qs,
-      sum-le (Φ s) (load (below es d) es) qs (λ q _. load-le _ _ es q (weight-below es d (s .revisit-cache))),
+      sum-le (Φ s) (load (below es) es) qs (λ q _. load-le _ _ es q (weight-below es (s .revisit-cache))),
     )
 
 -- A list -----------------------------------------------------------------------------------------------------------------------

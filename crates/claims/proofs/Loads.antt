@@ -13,16 +13,16 @@ use Rattle.plan.specs.Sheet.{Expr, no-expr, expr-at}
 use Rattle.plan.specs.Faults.{reach, tree}
 use Rattle.claims.specs.Demand3.{records}
 use Rattle.claims.specs.Limits.{Children-earlier}
-use Rattle.claims.proofs.Sums.{sum-eq, sum-le, sum-none, sum-part, sum-concat, sum-ones, mark, mark-own, mark-other, counted-in}
+use Rattle.claims.proofs.Sums.{sum-eq, sum-le, sum-none, sum-concat, sum-ones, mark, mark-own, mark-other, counted-in}
 
 abbrev pub kids : List Expr → ℕ → List ℕ
 kids es p = expr-at es p .children
 
-unfoldable pub load-within : ℕ → (ℕ → ℕ) → List Expr → ℕ → ℕ
+load-within : ℕ → (ℕ → ℕ) → List Expr → ℕ → ℕ
 load-within zero w es p = 0
 load-within (suc f) w es p = w p + sum (λ q. load-within f w es q) (kids es p)
 
-unfoldable pub load : (ℕ → ℕ) → List Expr → ℕ → ℕ
+pub load : (ℕ → ℕ) → List Expr → ℕ → ℕ
 load w es p = load-within (suc p) w es p
 
 abbrev pub size : List Expr → ℕ → ℕ
@@ -78,9 +78,6 @@ module _ (es : List Expr) (d : Children-earlier es) where
 
   pub outside-own : (v p : ℕ) → load (mark v) es p ≡ 0 → v ≢ p
   outside-own v p h e = let own = subst (λ n. 1 ≤ load (mark n) es p) (sym e) (load-own p) in omega arith
-
-  pub load-kid : (w : ℕ → ℕ) (p q : ℕ) → List·Memᴰ q (kids es p) → load w es q ≤ load w es p
-  load-kid w p q m = omega (arith, load-kids w es d p, sum-part (load w es) (kids es p) q m)
 
   -- a later record is in no tree
   later-below : (v f q : ℕ) → q < f → q < v → load (mark v) es q ≡ 0

@@ -196,7 +196,7 @@ not-seen true (some x) i t k = let z : _≡_ {A = ℕ} 0 1 = cc in omega arith
 not-seen false o i t k = t
 
 -- a record that is replaced is a sort, looked at with leave
-pub replaced-allowed : (allow x y z : Bool) → T (allow && (x || (y && z))) → T allow
+replaced-allowed : (allow x y z : Bool) → T (allow && (x || (y && z))) → T allow
 replaced-allowed true x y z t = tt
 replaced-allowed false x y z t = t
 

@@ -3,34 +3,25 @@ use mathlib.Core.Path.{_≡_, refl, ap, sym, subst}
 use mathlib.Core.Logic.{inl, inr}
 use Prim.Native.Nat.{ℕ, _≤_}
 use native.Mathlib.Omega.{arith}
-use native.Mathlib.Nat.{le-refl, le-trans}
-use mathlib.Core.List.{List, List·Memᴰ}
+use native.Mathlib.Nat.{le-refl}
+use mathlib.Core.List.{List}
 use lib.ListN.{length, set}
 use Rattle.plan.specs.Lists.{sum}
 use Rattle.plan.specs.Sheet.{Expr, Step, Sheet, done, no-step, step-at}
 use Rattle.plan.specs.Graph.{graph}
-use Rattle.plan.specs.Visit.{Run, simplify-ir-node-orders, unlink-node, one-visit, settled, looked-in, looks-of, ruling, around, out-edge}
+use Rattle.plan.specs.Visit.{Run, simplify-ir-node-orders, unlink-node, one-visit, settled, looked-in, ruling, around, out-edge}
 use Rattle.plan.specs.Walks.{begin, down}
 use Rattle.claims.specs.WellFormed.{Accepted, WellFormed}
 use Rattle.claims.specs.Demand3.{Down, Up, Looks-bounded}
 use Rattle.claims.proofs.Taken.{well-formed}
 use Rattle.claims.proofs.Walks.{two-ways, walk-keeps, trace-keeps}
-use Rattle.claims.proofs.Sums.{sum-eq, sum-le, sum-part, sum-at, sum-set, sum-set-le, sum-below}
+use Rattle.claims.proofs.Sums.{sum-eq, sum-le, sum-set, sum-set-le, sum-below}
 use Rattle.claims.proofs.Loads.{load}
-use Rattle.claims.proofs.Changes.{Formed, changed-formed, changed-length, changed-loads}
-use Rattle.claims.proofs.Implodes.{old-loads}
+use Rattle.claims.proofs.Changes.{changed-formed, changed-length, changed-loads}
+use Rattle.claims.proofs.Implodes.{Inside, old-loads}
 use Rattle.claims.proofs.Once.{entries, step-load, Once, formed-at-start, once-at-start}
 use Rattle.claims.proofs.Rules.{Ruled, ruled}
-use Rattle.claims.proofs.VisitLooks.{Once-in, inside-if-once, imploded-start, loads-start, exprs-bounded, aggs-bounded, looks-change}
-
--- what holds before and after each visit
-pub record Sound (r : Run) : Type 0 where
-  pub formed : Formed (r .arena)
-  pub once : Once (r .arena) (r .steps)
-
-no-load : (w : ℕ → ℕ) (es : List Expr) → step-load w es no-step ≡ 0
-unfolding sum
-no-load w es = refl
+use Rattle.claims.proofs.VisitLooks.{Sound, no-load, inside-of-step, inside-of-member, imploded-start, loads-start, looks-change, looks-bounded-in}
 
 -- a rule's step weighs no more
 rule-load : (w : ℕ → ℕ) (es : List Expr) (s s′ : Step) → Ruled s s′ → step-load w es s′ ≤ step-load w es s
@@ -42,23 +33,6 @@ rule-load w es s s′ k =
     ]
 
 module _ (r : Run) (sound : Sound r) where
-  -- of a step's own entries
-  pub once-of-step : (n : ℕ) → Once-in (entries (step-at (r .steps) n)) (r .arena)
-  once-of-step n w =
-      le-trans (sum-at (step-load w (r .arena)) (r .steps) no-step (no-load w (r .arena)) n) (sound .once w)
-
-  pub once-of-member : (s : Step) → List·Memᴰ s (r .steps) → Once-in (entries s) (r .arena)
-  once-of-member s m w = le-trans (sum-part (step-load w (r .arena)) (r .steps) s m) (sound .once w)
-
-  pub looks-bounded-in : (n : ℕ) → Looks-bounded n r
-  unfolding looked-in
-  looks-bounded-in n =
-      let s = step-at (r .steps) n in
-      record {
-        exprs = exprs-bounded s (around n (r .edges)) (r .arena) (r .looks) (sound .formed) (once-of-step n);
-        aggs = aggs-bounded s (around n (r .edges)) (r .arena) (r .looks) (sound .formed) (once-of-step n);
-      }
-
   -- another step at n, with no more entries than the one there
   unlinked-once : (n : ℕ) (s : Step) → entries s ≡ entries (step-at (r .steps) n) → Once (r .arena) (set (r .steps) n s)
   unlinked-once n s i w =
@@ -71,55 +45,44 @@ module _ (r : Run) (sound : Sound r) where
 
   -- as the looks of a visit begin
   pub once-started : (n : ℕ) → let l = looked-in n r in Once (l .start .expr-arena) (set (r .steps) n (l .step))
-  unfolding looked-in
   once-started n w =
       let s = step-at (r .steps) n in
-      let e = around n (r .edges) in
       let es = r .arena in
-      let l = looks-of s e es (r .looks) in
+      let l = looked-in n r in
       let es′ = l .start .expr-arena in
-      let own = once-of-step n in
-      let i = imploded-start s e es (r .looks) (sound .formed) own in
-      let same : (x : Step) → Once-in (entries x) es → step-load w es′ x ≡ step-load w es x =
-      λ x once. old-loads (length es) es es′ (sound .formed) (i .formed) (i .old) w (entries x) (inside-if-once (entries x) es (sound .formed) once) in
+      let i = imploded-start r sound n in
+      let same : (x : Step) → Inside (entries x) es → step-load w es′ x ≡ step-load w es x =
+      λ x inside. old-loads (length es) es es′ (sound .formed) (i .formed) (i .old) w (entries x) inside in
       omega (
         arith,
         sum-set (step-load w es′) (r .steps) no-step n (l .step),
         no-load w es′,
-        sum-eq (step-load w es′) (step-load w es) (r .steps) (λ x m. same x (once-of-member x m)),
-        same s own,
-        loads-start s e es (r .looks) (sound .formed) own w,
+        sum-eq (step-load w es′) (step-load w es) (r .steps) (λ x m. same x (inside-of-member r sound x m)),
+        same s (inside-of-step r sound n),
+        loads-start r sound n w,
         sound .once w,
       )
 
   once-settled : (n : ℕ) → Once (looked-in n r .end .expr-arena) (set (r .steps) n (ruling n r .0))
-  unfolding looked-in ruling
+  unfolding ruling
   once-settled n w =
-      let s = step-at (r .steps) n in
-      let e = around n (r .edges) in
-      let es = r .arena in
-      let l = looks-of s e es (r .looks) in
+      let l = looked-in n r in
       let es′ = l .start .expr-arena in
       let s′ = ruling n r .0 in
-      let own = once-of-step n in
-      let i = imploded-start s e es (r .looks) (sound .formed) own in
-      let c = looks-change s e es (r .looks) (sound .formed) own in
+      let c = looks-change r sound n in
       omega (
         arith,
-        sum-le (step-load w (l .end .expr-arena)) (step-load w es′) (set (r .steps) n s′) (λ x _. changed-loads c (i .formed) w (entries x)),
-        sum-set-le (step-load w es′) (r .steps) n s′ (l .step) (rule-load w es′ (l .step) s′ (ruled (l .step) e (l .observable) (l .step .kind))),
+        sum-le (step-load w (l .end .expr-arena)) (step-load w es′) (set (r .steps) n s′)
+            (λ x _. changed-loads c (imploded-start r sound n .formed) w (entries x)),
+        sum-set-le (step-load w es′) (r .steps) n s′ (l .step)
+            (rule-load w es′ (l .step) s′ (ruled (l .step) (around n (r .edges)) (l .observable) (l .step .kind))),
         once-started n w,
         ap (sum-below w) (changed-length c),
       )
 
   pub sound-settled : (n : ℕ) → Sound (settled n (one-visit r))
   unfolding settled looked-in ruling
-  sound-settled n =
-      let s = step-at (r .steps) n in
-      let e = around n (r .edges) in
-      let i = imploded-start s e (r .arena) (r .looks) (sound .formed) (once-of-step n) in
-      let c = looks-change s e (r .arena) (r .looks) (sound .formed) (once-of-step n) in
-      record { formed = changed-formed c (i .formed); once = once-settled n }
+  sound-settled n = record { formed = changed-formed (looks-change r sound n) (imploded-start r sound n .formed); once = once-settled n }
 
 pub sound-visit : (n : ℕ) (ns : List ℕ) (r r′ : Run) → Sound r → simplify-ir-node-orders n r ≡ done r′ → Sound r′
 sound-visit n ns r r′ sound e =

@@ -86,7 +86,7 @@ pub record Spent-along (qs : List ℕ) (s s′ : Eos) : Type 0 where
   pub looks : s′ .looks + sum (Φ s′) qs ≤ s .looks + sum (size (s .expr-arena)) qs + sum (Φ s) qs
 
 -- one list after another
-pub spent-both : {s s₁ s₂ : Eos} (l m qs : List ℕ) → Formed (s .expr-arena) → ((w : ℕ → ℕ) → sum w qs ≡ sum w l + sum w m)
+spent-both : {s s₁ s₂ : Eos} (l m qs : List ℕ) → Formed (s .expr-arena) → ((w : ℕ → ℕ) → sum w qs ≡ sum w l + sum w m)
     → Spent-along l s s₁ → Spent-along m s₁ s₂ → Spent-along qs s s₂
 spent-both {s} {s₁} {s₂} l m qs g i a b =
     let g₁ = changed-formed (a .goes .changes) g in
@@ -110,7 +110,7 @@ spent-both {s} {s₁} {s₂} l m qs g i a b =
           );
     }
 
-pub spent-none : (s : Eos) → Spent-along [] s s
+spent-none : (s : Eos) → Spent-along [] s s
 unfolding sum
 spent-none s = record { goes = stays s; outside = λ x h. refl; looks = omega arith }
 

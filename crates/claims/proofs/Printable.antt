@@ -17,8 +17,7 @@ use Rattle.claims.proofs.Walks.{two-ways}
 use Rattle.claims.proofs.Every.{Every, every-set, every-append, every-map}
 use Rattle.claims.proofs.Changes.{Changes, no-change, takes-input, goes-off}
 use Rattle.claims.proofs.Rules.{Small, Ruled, ruled}
-use Rattle.claims.proofs.LooksBounded.{Sound, once-of-step}
-use Rattle.claims.proofs.VisitLooks.{looks-change}
+use Rattle.claims.proofs.VisitLooks.{Sound, looks-change}
 
 -- Records ----------------------------------------------------------------------------------------------------------------------
 
@@ -134,15 +133,22 @@ module _ (r : Run) (k : Printable r) (n : ℕ) where
   unfolding settled looked-in ruling looks-of
   printable-settled sound =
       let s = step-at (r .steps) n in
-      let e = around n (r .edges) in
-      let l = looks-of s e (r .arena) (r .looks) in
+      let l = looked-in n r in
       let i = slim-started s (r .arena) in
       let p = k .steps n in
       let started : Plain (l .step) =
-      record { small = record { a = p .small .a; b = p .small .b; c = p .small .c }; few-inputs = p .few-inputs; few-exprs = p .few-exprs; few-aggs = omega (arith, p .few-aggs, i .same-length); inputs = p .inputs } in
       record {
-        exprs = slim-changed (looks-change s e (r .arena) (r .looks) (sound .formed) (once-of-step r sound n)) (i .slim (k .exprs));
-        steps = every-set Plain no-step (r .steps) n _ (k .steps) (plain-ruled (l .step) _ (ruled (l .step) e (l .observable) (l .step .kind)) started);
+        small = record { a = p .small .a; b = p .small .b; c = p .small .c };
+        few-inputs = p .few-inputs;
+        few-exprs = p .few-exprs;
+        few-aggs = omega (arith, p .few-aggs, i .same-length);
+        inputs = p .inputs;
+      } in
+      record {
+        exprs = slim-changed (looks-change r sound n) (i .slim (k .exprs));
+        steps =
+            every-set Plain no-step (r .steps) n _ (k .steps)
+            (plain-ruled (l .step) _ (ruled (l .step) (around n (r .edges)) (l .observable) (l .step .kind)) started);
         edges = every-map Short-edge no-edge _ (r .edges) (k .edges) (λ d h. record { consumer = h .consumer; slot = h .slot });
         removed = omega (arith, k .removed);
       }

@@ -13,7 +13,7 @@ use Rattle.plan.specs.Kinds.{same-ir}
 use Rattle.plan.specs.Lists.{if_then_else_, sum}
 use Rattle.plan.specs.Sheet.{Expr, Step, Sheet, done, no-step, expr-at, step-at, expr-count, over-limits}
 use Rattle.plan.specs.Graph.{graph}
-use Rattle.plan.specs.Visit.{Run, simplify-ir-node-orders, unlink-node, one-visit, settled, looked-in, looks-of, ruling, around, out-edge, with-input}
+use Rattle.plan.specs.Visit.{Run, simplify-ir-node-orders, unlink-node, one-visit, settled, looked-in, looks-of, ruling, out-edge, with-input}
 use Rattle.plan.specs.Walks.{begin, down, up}
 use Rattle.claims.specs.WellFormed.{WellFormed}
 use Rattle.claims.specs.Demand3.{Down, Up, records}
@@ -24,8 +24,8 @@ use Rattle.claims.proofs.Sums.{sum-le, sum-ones, sum-set, sum-below}
 use Rattle.claims.proofs.Loads.{size-records}
 use Rattle.claims.proofs.Changes.{earlier-of, changed-length}
 use Rattle.claims.proofs.Implodes.{not-scalar, still-to-append}
-use Rattle.claims.proofs.LooksBounded.{Sound, sound-begin, sound-settled, sound-unlinked, once-of-step, looks-bounded-in}
-use Rattle.claims.proofs.VisitLooks.{exprs-spent, looks-change, once-exprs, once-aggs}
+use Rattle.claims.proofs.LooksBounded.{sound-begin, sound-settled, sound-unlinked}
+use Rattle.claims.proofs.VisitLooks.{Sound, exprs-spent, looks-change, once-exprs, once-aggs, looks-bounded-in}
 use Rattle.claims.proofs.ArenaLimit.{room-settled}
 
 -- Looks of a visit -------------------------------------------------------------------------------------------------------------
@@ -41,25 +41,20 @@ few-of-128 n before after h k = omega (arith, mul-le-mul h (add-le-add h (le-ref
 
 module _ (r : Run) (sound : Sound r) (n : ℕ) where
   end-length : length (looked-in n r .end .expr-arena) ≡ length (looked-in n r .start .expr-arena)
-  unfolding looked-in
-  end-length = changed-length (looks-change (step-at (r .steps) n) (around n (r .edges)) (r .arena) (r .looks) (sound .formed) (once-of-step r sound n))
+  end-length = changed-length (looks-change r sound n)
 
   looks-of-visit : length (looked-in n r .end .expr-arena) ≤ 128 → looked-in n r .end .looks ≤ r .looks + 17024
   unfolding looked-in looks-of
   looks-of-visit h =
-      let s = step-at (r .steps) n in
-      let e = around n (r .edges) in
       let l = looked-in n r in
-      let own = once-of-step r sound n in
       let bounded = looks-bounded-in r sound n in
       let n₁ = length (records (l .start .expr-arena) (l .step .exprs)) in
       let n₂ = length (records (l .between .expr-arena) (l .step .aggs)) in
-      let c = changed-length (exprs-spent s e (r .arena) (r .looks) (sound .formed) own .goes .changes) in
       let k₁ : n₁ ≤ 128 =
       omega (
         arith,
         size-records (l .start .expr-arena) (l .step .exprs),
-        once-exprs s e (r .arena) (r .looks) (sound .formed) own (λ _. 1),
+        once-exprs r sound n (λ _. 1),
         below-ones (length (l .start .expr-arena)),
         end-length,
       ) in
@@ -67,8 +62,9 @@ module _ (r : Run) (sound : Sound r) (n : ℕ) where
       omega (
         arith,
         size-records (l .between .expr-arena) (l .step .aggs),
-        once-aggs s e (r .arena) (r .looks) (sound .formed) own (λ _. 1),
+        once-aggs r sound n (λ _. 1),
         below-ones (length (l .between .expr-arena)),
+        changed-length (exprs-spent r sound n .goes .changes),
         end-length,
       ) in
       omega (
@@ -117,7 +113,7 @@ module _ {most left : ℕ} (r : Run) (k : Within most (suc left) r) (n : ℕ) wh
         looks = omega (arith, k .looks, looks-of-visit r (k .sound) n end-within);
       }
 
-  pub visit-limits : most ≤ 2 ^ 32 → Visit-limits n r
+  visit-limits : most ≤ 2 ^ 32 → Visit-limits n r
   unfolding settled looked-in
   visit-limits h =
       record {

@@ -128,7 +128,7 @@ below-add u v w zero h = refl
 below-add u v w (suc n) h = omega (arith, below-add u v w n (λ i k. h i (omega arith)), h n (omega arith))
 
 -- one number alone: nothing up to it, one past it
-pub below-none : (v n : ℕ) → n ≤ v → sum-below (mark v) n ≡ 0
+below-none : (v n : ℕ) → n ≤ v → sum-below (mark v) n ≡ 0
 unfolding sum-below
 below-none v zero h = refl
 below-none v (suc n) h = omega (arith, below-none v n (omega arith), mark-other v n (λ e. omega arith))

@@ -17,7 +17,7 @@ use Rattle.plan.specs.Text.{digits, decimal, line, expr-line, step-line, edge-l
 use Rattle.claims.proofs.Sums.{sum-append}
 
 -- powers of ten
-unfoldable pub ten : ℕ → ℕ
+ten : ℕ → ℕ
 ten zero = 1
 ten (suc k) = 10 * ten k
 
@@ -34,14 +34,14 @@ digits-few k (suc f) n h = by (ltb n 10) (nltb→le n 10) k h (λ j. digits-few 
     by false t (suc k) h ih = omega (arith, length-append (digits f (n / 10)) ((48 + n % 10) ∷ []), ih k (omega arith))
 
 -- a number behind its comma
-abbrev pub width : ℕ → ℕ
+abbrev width : ℕ → ℕ
 width n = suc (length (decimal n))
 
-pub short-width : (n : ℕ) → n < 1000 → width n ≤ 4
+short-width : (n : ℕ) → n < 1000 → width n ≤ 4
 unfolding ten
 short-width n h = omega (arith, digits-few 2 (suc n) n h)
 
-pub long-width : (n : ℕ) → n < 2 ^ 64 → width n ≤ 21
+long-width : (n : ℕ) → n < 2 ^ 64 → width n ≤ 21
 unfolding ten
 long-width n h = omega (arith, digits-few 19 (suc n) n (omega arith))
 
@@ -60,7 +60,7 @@ line-length letter ns =
     )
 
 -- lists of short things
-pub sum-short : {A : Type 0} (w : A → ℕ) (k : ℕ) (l : List A) → ((a : A) → List·Memᴰ a l → w a ≤ k) → sum w l ≤ k * length l
+sum-short : {A : Type 0} (w : A → ℕ) (k : ℕ) (l : List A) → ((a : A) → List·Memᴰ a l → w a ≤ k) → sum w l ≤ k * length l
 unfolding sum
 sum-short w k [] h = omega arith
 sum-short w k (x ∷ l) h = omega (arith, h x (List·Memᴰ·head refl), sum-short w k l (λ a m. h a (List·Memᴰ·tail m)))
@@ -68,7 +68,7 @@ sum-short w k (x ∷ l) h = omega (arith, h x (List·Memᴰ·head refl), sum-sho
 pub block-short : {A : Type 0} (f : A → List ℕ) (k : ℕ) (l : List A) → ((a : A) → List·Memᴰ a l → length (f a) ≤ k) → length (concat-map f l) ≤ k * length l
 block-short f k l h = rw (length-concat f l) (sum-short (λ a. length (f a)) k l h)
 
-pub numbers-short : (ns : List ℕ) → ((n : ℕ) → List·Memᴰ n ns → n < 1000) → sum width ns ≤ 4 * length ns
+numbers-short : (ns : List ℕ) → ((n : ℕ) → List·Memᴰ n ns → n < 1000) → sum width ns ≤ 4 * length ns
 numbers-short ns h = sum-short width 4 ns (λ n m. short-width n (h n m))
 
 -- Lines ------------------------------------------------------------------------------------------------------------------------

@@ -17,8 +17,8 @@ use Rattle.claims.proofs.Outcomes.{both-done, same-value}
 use Rattle.claims.proofs.Taken.{well-formed}
 use Rattle.claims.proofs.Walks.{walk-keeps}
 use Rattle.claims.proofs.Once.{entries}
-use Rattle.claims.proofs.VisitLooks.{inside-if-once}
-use Rattle.claims.proofs.LooksBounded.{Sound, sound-visit, sound-begin, once-of-step}
+use Rattle.claims.proofs.VisitLooks.{Sound, inside-of-step}
+use Rattle.claims.proofs.LooksBounded.{sound-visit, sound-begin}
 use Rattle.claims.proofs.RunLimits.{Within, limits-down, limits-up, within-whole}
 use Rattle.claims.proofs.Every.{place-of, every-member}
 use Rattle.claims.proofs.Printable.{Short-edge, Printable, printable-visit}
@@ -45,7 +45,7 @@ module _ (r : Run) (k : Within 576 0 r) (p : Printable r) where
   -- the entries of a step are in the arena
   entries-small : (n q : ℕ) → List·Memᴰ q (entries (step-at (r .steps) n)) → q < 1000
   entries-small n q m =
-      omega (arith, inside-if-once (entries (step-at (r .steps) n)) (r .arena) (k .sound .formed) (once-of-step r (k .sound) n) q m, arena-length)
+      omega (arith, inside-of-step r (k .sound) n q m, arena-length)
 
   steps-short : length (steps-block r) ≤ 126 * length (r .steps)
   unfolding steps-block
