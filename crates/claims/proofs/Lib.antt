@@ -6,6 +6,7 @@ pub mod Visits
 pub mod Sums
 pub mod Loads
 pub mod Changes
+pub mod RevisitCache
 pub mod Potential
 pub mod LookAgain
 pub mod LookBound

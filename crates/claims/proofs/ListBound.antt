@@ -7,18 +7,18 @@ use mathlib.Core.Bool.{Bool, true, false, _&&_}
 use mathlib.Core.List.{List, [], _∷_, List·Memᴰ, List·Memᴰ·head, List·Memᴰ·tail}
 use lib.Dec.{T}
 use lib.ListN.{length}
-use Rattle.plan.specs.declared.orders.ObservableOrders.{ObservableOrders}
 use Rattle.plan.specs.Lists.{if_then_else_, sum}
 use Rattle.plan.specs.Sheet.{Expr, expr-at}
 use Rattle.plan.specs.Orders.{∅, no-orders, single}
-use Rattle.plan.specs.Look.{Eos, cached, Look, look, look-along, simplify-projected-exprs, internal-observe, NO-DEORDER}
+use Rattle.plan.specs.Look.{Eos, Look, look, look-along, simplify-projected-exprs, internal-observe, NO-DEORDER}
 use Rattle.claims.specs.Demand3.{records}
 use Rattle.claims.specs.Limits.{Children-earlier}
 use Rattle.claims.proofs.Booleans.{and-left}
 use Rattle.claims.proofs.Sums.{sum-le, sum-part, mark}
 use Rattle.claims.proofs.Loads.{kids, load, size, load-le, load-kids, size-records}
+use Rattle.claims.proofs.RevisitCache.{Cache, seen-in}
 use Rattle.claims.proofs.Changes.{Formed, earlier-of}
-use Rattle.claims.proofs.Potential.{is-some, weight, Φ, Goes, Spent-along, spent-along, spent-again}
+use Rattle.claims.proofs.Potential.{weight, Φ, Goes, Spent-along, spent-along, spent-again}
 use Rattle.claims.proofs.LookAgain.{single-of-list}
 use Rattle.claims.proofs.LookBound.{look-spent}
 
@@ -47,9 +47,9 @@ module _ (es : List Expr) (d : Children-earlier es) where
   pairs : (cs : List ℕ) → 2 * sum (load (below es) es) cs + sum (size es) cs ≤ sum (size es) cs * sum (size es) cs
   pairs cs = forest-pairs cs (λ c m. tree-pairs (suc c) c (le-refl _))
 
-weight-below : (es : List Expr) (c : List (ℕ × ObservableOrders)) (v : ℕ) → weight es c v ≤ below es v
+weight-below : (es : List Expr) (c : Cache) (v : ℕ) → weight es c v ≤ below es v
 unfolding weight below
-weight-below es c v = by (is-some (cached v c))
+weight-below es c v = by (seen-in c v)
   where
     by : (b : Bool) → (if b then 0 else size es v - 1) ≤ size es v - 1
     by true = omega arith

@@ -5,8 +5,8 @@ use Prim.Native.Nat.{ℕ, zero, suc, _+_, _-_, _≤_}
 use native.Mathlib.Omega.{arith}
 use mathlib.Core.Bool.{Bool, true, false, _&&_, _||_}
 use mathlib.Core.Option.{Option, none, some}
-use mathlib.Core.List.{List, [], _∷_, List·Memᴰ}
-use lib.Dec.{T, eqb, eqb-refl}
+use mathlib.Core.List.{List, [], List·Memᴰ}
+use lib.Dec.{T}
 use lib.ListN.{getD, set, take, drop}
 use lib.Seq.{getD-set-same, getD-set-other}
 use Rattle.plan.specs.declared.aexpr.AExpr.{AExpr}
@@ -15,33 +15,16 @@ use Rattle.plan.specs.Kinds.{same-aexpr}
 use Rattle.plan.specs.Lists.{if_then_else_, all?, sum, yes?}
 use Rattle.plan.specs.Sheet.{Expr, no-expr, expr-at}
 use Rattle.plan.specs.Orders.{∅, no-orders, is-empty}
-use Rattle.plan.specs.Look.{Eos, cached, Look, look, look-along, look-along-children, look-again, look-at, look-whole, look-ended, one-look, with-field, with-arena, check-return-cached, is-replaced, Before, before, After, after, in-order, loses-order, switched-off, replace-implode, cache-output, internal-observe, enter-struct}
+use Rattle.plan.specs.Look.{Eos, Look, look, look-along, look-along-children, look-again, look-at, look-whole, look-ended, one-look, with-field, with-arena, check-return-cached, is-replaced, Before, before, After, after, in-order, loses-order, switched-off, replace-implode, cache-output, internal-observe, enter-struct}
 use Rattle.claims.proofs.Booleans.{and-left}
 use Rattle.claims.proofs.Sums.{sum-part, sum-none, mark}
 use Rattle.claims.proofs.Loads.{kids, load, size, load-kids, later-none, outside-own}
+use Rattle.claims.proofs.RevisitCache.{seen, seen-still, seen-now, not-seen}
 use Rattle.claims.proofs.Changes.{sort?, implode?, Formed, earlier-of, no-change, goes-off, changes-on, changed-formed, implode-inside}
-use Rattle.claims.proofs.Potential.{is-some, seen, weight, Φ, Goes, stays, weight-le, sum-Φ-le, Spent, Bounded, Spent-along, Spent-again, spent-along, spent-parts, spent-again, replaced-spent}
+use Rattle.claims.proofs.Potential.{weight, Φ, Goes, stays, weight-le, sum-Φ-le, Spent, Bounded, Spent-along, Spent-again, spent-along, spent-parts, spent-again, replaced-spent}
 use Rattle.claims.proofs.LookAgain.{looks-again, single-of-children, sum-in-order, of-in-order}
 
 -- The end of a look: an Implode may be switched off, and the record is cached or not ------------------------------------------
-
-seen-more : (should : Bool) (p q : ℕ) (o : ObservableOrders) (c : List (ℕ × ObservableOrders)) → T (is-some (cached q c)) → T (is-some (cached q (if should then (p, o) ∷ c else c)))
-unfolding cached
-seen-more true p q o c t = by (eqb q p)
-  where
-    by : (b : Bool) → T (is-some {A = ObservableOrders} (elim b as (λ _. Option ObservableOrders) [ true ↦ some o | false ↦ cached q c ]))
-    by true = tt
-    by false = t
-seen-more false p q o c t = t
-
-seen-now : (should : Bool) (p : ℕ) (o : ObservableOrders) (c : List (ℕ × ObservableOrders)) → T should → T (is-some (cached p (if should then (p, o) ∷ c else c)))
-unfolding cached
-seen-now true p o c _ = by (eqb p p) (eqb-refl p)
-  where
-    by : (b : Bool) → T b → T (is-some {A = ObservableOrders} (elim b as (λ _. Option ObservableOrders) [ true ↦ some o | false ↦ cached p c ]))
-    by true t = tt
-    by false t = absurd t
-seen-now false p o c t = absurd t
 
 record Switched (p : ℕ) (s s′ : Eos) : Type 0 where
   goes : Goes s s′
@@ -157,7 +140,7 @@ module _ (p : ℕ) (s₀ s₃ : Eos) (b : Before) (again : Bool) (c : ℕ) (g : 
         let s₄ = internal-observe (v .observes) (with-field field s₃) in
         let F = cache-output (v .caches) p o (replace-implode p e os s₄) in
         let w = switched s₄ p e os (changed-formed (a .goes .changes) g) stands in
-        let last : Goes s₃ F = record { changes = w .goes .changes; keeps = λ q t. seen-more (v .caches) p q o (s₃ .revisit-cache) t } in
+        let last : Goes s₃ F = record { changes = w .goes .changes; keeps = λ q t. seen-still (v .caches) p q o s₃ t } in
         let whole : Goes s₀ F = record { changes = changes-on (a .goes .changes) (w .goes .changes); keeps = λ q t. last .keeps q (a .goes .keeps q t) } in
         record {
           goes = whole;
@@ -168,7 +151,7 @@ module _ (p : ℕ) (s₀ s₃ : Eos) (b : Before) (again : Bool) (c : ℕ) (g : 
           scalar = λ _. w .scalar ∙ ap (λ (x : Expr). x .scalar) stands;
           looks =
               looks-after F last whole (w .children ∙ ap (λ (x : Expr). x .children) stands)
-              (λ t. seen-now (v .caches) p o (s₃ .revisit-cache) (cost t .1));
+              (λ t. seen-now (v .caches) p o s₃ (cost t .1));
         }
 
 whole-spent : (rec : Look) → Bounded rec → (allow : Bool) (p : ℕ) (s₀ : Eos) → Formed (s₀ .expr-arena)
@@ -188,12 +171,6 @@ whole-spent rec B allow p s₀ g unseen =
     λ a. single-of-children rec e₀ b (one-look s₀) (t a .one) in
     let a = spent-again rec B (v .again) (l .1) (in-order b (e₀ .children)) (one-look s₀) (l .2) g (children-spent rec B e₀ b (one-look s₀) g) m in
     ended-spent p s₀ (i .1) b (v .again) (l .1 .last-ordered-node) g a v (λ a. (unseen (t a .checks), t a .caches, m a)) allow (v .answer (i .0)) field (l .0)
-
--- a look that found nothing in the cache, if it asked
-not-seen : (asks : Bool) (o : Option ObservableOrders) → (if asks then o else none) ≡ none → T asks → T (is-some o) → ⊥
-not-seen true none i t k = k
-not-seen true (some x) i t k = let z : _≡_ {A = ℕ} 0 1 = cc in omega arith
-not-seen false o i t k = t
 
 -- a record that is replaced is a sort, looked at with leave
 replaced-allowed : (allow x y z : Bool) → T (allow && (x || (y && z))) → T allow
@@ -233,5 +210,5 @@ look-spent (suc f) allow p s g =
     let sort-by = same-aexpr (e₀ .kind) AExpr.SortBy in
     let kept = all? (λ q. expr-at (s .expr-arena) q .length-preserving) (e₀ .children) in
     at-spent (λ m q t. look f m q t) (look-spent f) allow p s g (check-return-cached b p (one-look s)) (is-replaced (s .expr-arena) e₀ allow)
-    (not-seen (b .checks) (cached p (s .revisit-cache)))
+    (not-seen b p s)
     (λ t. (replaced-allowed allow sort sort-by kept t, replaced-sort allow sort sort-by kept t))

@@ -5,7 +5,6 @@ use Prim.Native.Nat.{ℕ, _+_, _-_, _≤_}
 use native.Mathlib.Omega.{arith}
 use native.Mathlib.Nat.{le-trans}
 use mathlib.Core.Bool.{Bool, true, false, not}
-use mathlib.Core.Option.{Option, none, some}
 use mathlib.Core.List.{List, [], _∷_, _++_, List·Memᴰ, List·Memᴰ·head, List·Memᴰ·tail}
 use lib.Dec.{T}
 use lib.ListN.{take, drop}
@@ -14,21 +13,15 @@ use Rattle.plan.specs.declared.orders.ObservableOrders.{ObservableOrders}
 use Rattle.plan.specs.Lists.{if_then_else_, sum}
 use Rattle.plan.specs.Sheet.{Expr, no-expr, expr-at}
 use Rattle.plan.specs.Orders.{ExprOrderAcc, add}
-use Rattle.plan.specs.Look.{Eos, cached, Look, look-along, look-again, one-look, ALLOW-DEORDER, replace-by-input}
+use Rattle.plan.specs.Look.{Eos, Look, look-along, look-again, one-look, ALLOW-DEORDER, replace-by-input}
 use Rattle.claims.proofs.Sums.{sum-le, sum-part, mark}
 use Rattle.claims.proofs.Loads.{load, size, load-le, outside-own}
+use Rattle.claims.proofs.RevisitCache.{Cache, seen-in, seen}
 use Rattle.claims.proofs.Changes.{sort?, Formed, earlier-of, Changes, no-change, takes-input, changes-on, changed-formed, changed-load, changed-loads, input-of, input-formed, input-size}
 
-abbrev pub is-some : {A : Type 0} → Option A → Bool
-is-some none = false
-is-some (some x) = true
-
-abbrev pub seen : Eos → ℕ → Bool
-seen s q = is-some (cached q (s .revisit-cache))
-
 -- what looking at v's children once more may still cost
-unfoldable pub weight : List Expr → List (ℕ × ObservableOrders) → ℕ → ℕ
-weight es c v = if is-some (cached v c) then 0 else size es v - 1
+unfoldable pub weight : List Expr → Cache → ℕ → ℕ
+weight es c v = if seen-in c v then 0 else size es v - 1
 
 abbrev pub Φ : Eos → ℕ → ℕ
 Φ s q = load (weight (s .expr-arena) (s .revisit-cache)) (s .expr-arena) q
