@@ -1,0 +1,150 @@
+-- Each record is reached at most once from the entries of all steps: so it is on a well-formed sheet.
+use mathlib.Core.Path.{_≡_, refl, ap, sym, subst}
+use mathlib.Core.Logic.{inl, inr}
+use Prim.Native.Nat.{ℕ, zero, suc, _+_, _*_, _≤_, _<_}
+use native.Mathlib.Omega.{arith}
+use native.Mathlib.Nat.{le-refl, le-trans, not-suc-le-zero, mul-le-mul}
+use native.Mathlib.Decide.{decLt}
+use mathlib.Core.Bool.{_&&_}
+use mathlib.Core.List.{List, [], _∷_, _++_, List·Memᴰ, List·Memᴰ·head, List·Memᴰ·tail, List·Memᴰ·not-nil, List·Memᴰ·append-cases}
+use lib.Dec.{T, eqb, eqb→eq, ltb, leb→le}
+use lib.ListN.{length, getD, List·getD-eq-default}
+use Rattle.plan.specs.Lists.{all?, sum, concat-map, numbered, times}
+use Rattle.plan.specs.Sheet.{Expr, Step, Sheet, no-expr, no-step, expr-at, step-at, in-expr-table}
+use Rattle.plan.specs.Faults.{references-right, children-earlier, inputs-earlier, exprs-there, exprs-named, uses-right, use-right, named, cache-ids}
+use Rattle.claims.specs.WellFormed.{WellFormed}
+use Rattle.claims.proofs.Booleans.{and-left, and-right, entry-at, all-at, of-all}
+use Rattle.claims.proofs.Sums.{sum-append, sum-concat, sum-below, below-le, below-add, mark, mark-own}
+use Rattle.claims.proofs.Loads.{kids, load, load-kids}
+use Rattle.claims.proofs.Tables.{sort-has-input}
+use Rattle.claims.proofs.Changes.{Fits, Formed, earlier-of, nothing-fits}
+
+-- the entries of a step's two lists
+abbrev pub entries : Step → List ℕ
+entries s = s .exprs ++ s .aggs
+
+abbrev pub step-load : (ℕ → ℕ) → List Expr → Step → ℕ
+step-load w es s = sum (load w es) (entries s)
+
+-- whatever the records weigh, the trees of all entries together weigh no more than the arena
+abbrev pub Once : List Expr → List Step → Type 0
+Once es ps = (w : ℕ → ℕ) → sum (step-load w es) ps ≤ sum-below w (length es)
+
+-- A list in which no number below n stands twice -----------------------------------------------------------------------------
+
+below-part : (w : ℕ → ℕ) (n m : ℕ) → m < n → w m ≤ sum-below w n
+unfolding sum-below
+below-part w zero m h = absurd (not-suc-le-zero h)
+below-part w (suc n) m h = by (decLt m n) (below-part w n m)
+  where
+    by : Dec (m < n) → (m < n → w m ≤ sum-below w n) → w m ≤ sum-below w n + w n
+    by (yes k) f = omega (arith, f k)
+    by (no k) f = let e : m ≡ n = omega arith in omega (arith, ap w e)
+
+spread : (L : ℕ → ℕ) (n : ℕ) (l : List ℕ) → ((m : ℕ) → List·Memᴰ m l → m < n) → sum L l ≤ sum-below (λ i. times i l * L i) n
+unfolding sum
+spread L n [] h = omega arith
+spread L n (m ∷ l) h =
+    let a = below-part (λ i. mark i m * L i) n m (h m (List·Memᴰ·head refl)) in
+    let own : mark m m * L m ≡ L m = rw (mark-own m) (omega arith) in
+    let b = below-add (λ i. times i (m ∷ l) * L i) (λ i. mark i m * L i) (λ i. times i l * L i) n (λ i _. omega arith) in
+    omega (arith, spread L n l (λ c k. h c (List·Memᴰ·tail k)))
+
+no-more : (L : ℕ → ℕ) (n : ℕ) (l : List ℕ) → ((m : ℕ) → List·Memᴰ m l → m < n) → ((i : ℕ) → i < n → times i l ≤ 1) → sum L l ≤ sum-below L n
+no-more L n l h once =
+    le-trans (spread L n l h)
+    (below-le _ L n (λ i k. let t = mul-le-mul (once i k) (le-refl (L i)) in omega arith))
+
+-- over the records of an arena, by index or as they stand
+below-front : (w : ℕ → ℕ) (n : ℕ) → sum-below w (suc n) ≡ w 0 + sum-below (λ i. w (suc i)) n
+unfolding sum-below
+below-front w zero = omega arith
+below-front w (suc n) = omega (arith, below-front w n)
+
+below-records : {A : Type 0} (f : A → ℕ) (l : List A) (d : A) → sum-below (λ i. f (getD l i d)) (length l) ≡ sum f l
+unfolding sum sum-below
+below-records f [] d = refl
+below-records f (x ∷ l) d = omega (arith, below-front (λ i. f (getD (x ∷ l) i d)) (length l), below-records f l d)
+
+-- A well-formed sheet --------------------------------------------------------------------------------------------------------
+
+-- a member of the lists that a list's entries have
+of-concat : {A : Type 0} (f : A → List ℕ) (l : List A) (d : A) (m : ℕ) → List·Memᴰ m (concat-map f l) → (i : ℕ) × (i < length l) × List·Memᴰ m (f (getD l i d))
+unfolding concat-map
+of-concat f [] d m k = absurd (List·Memᴰ·not-nil k)
+of-concat f (x ∷ l) d m k =
+    elim (List·Memᴰ·append-cases (f x) k) [
+      | inl k₁ ↦ (0, omega arith, k₁)
+      | inr k₁ ↦ let (i, h, k₂) = of-concat f l d m k₁ in (suc i, omega arith, k₂)
+    ]
+
+module _ (sh : Sheet) (wf : WellFormed sh) where
+  children-right : T (all? children-earlier (numbered 0 (sh .exprs)))
+  unfolding references-right
+  children-right =
+      let a = all? children-earlier (numbered 0 (sh .exprs)) in
+      let b = all? (inputs-earlier sh) (numbered 0 (sh .steps)) in
+      and-left a b (and-left (a && b) (all? (exprs-there sh) (numbered 0 (sh .steps))) (wf .references))
+
+  entries-right : T (all? (exprs-there sh) (numbered 0 (sh .steps)))
+  unfolding references-right
+  entries-right =
+      let a = all? children-earlier (numbered 0 (sh .exprs)) in
+      let b = all? (inputs-earlier sh) (numbered 0 (sh .steps)) in
+      and-right (a && b) (all? (exprs-there sh) (numbered 0 (sh .steps))) (wf .references)
+
+  pub formed-at-start : Formed (sh .exprs)
+  unfolding children-earlier
+  formed-at-start p = by (decLt p (length (sh .exprs)))
+    where
+      by : Dec (p < length (sh .exprs)) → Fits p (expr-at (sh .exprs) p)
+      by (yes h) =
+          record {
+            earlier =
+                λ c m.
+                leb→le (suc c) p (of-all (λ q. ltb q p) (expr-at (sh .exprs) p .children) (entry-at children-earlier (sh .exprs) no-expr children-right p h) c m);
+            input = sort-has-input (expr-at (sh .exprs) p) (all-at in-expr-table (sh .exprs) no-expr (wf .exprs-in-table) p h);
+          }
+      by (no n) = subst (Fits p) (sym (List·getD-eq-default (sh .exprs) no-expr (omega arith))) (nothing-fits p)
+
+  entry-inside : (n q : ℕ) → n < length (sh .steps) → List·Memᴰ q (entries (step-at (sh .steps) n)) → q < length (sh .exprs)
+  unfolding exprs-there
+  entry-inside n q h m =
+      leb→le (suc q) (length (sh .exprs))
+      (of-all (λ q. ltb q (length (sh .exprs))) (entries (step-at (sh .steps) n)) (entry-at (exprs-there sh) (sh .steps) no-step entries-right n h) q m)
+
+  named-inside : (m : ℕ) → List·Memᴰ m (exprs-named sh) → m < length (sh .exprs)
+  unfolding exprs-named
+  named-inside m k =
+      elim (List·Memᴰ·append-cases (concat-map (λ (e : Expr). e .children) (sh .exprs)) k) [
+        | inl k₁ ↦
+            let (i, h, k₂) = of-concat (λ (e : Expr). e .children) (sh .exprs) no-expr m k₁ in
+            omega (arith, formed-at-start i .earlier m k₂)
+        | inr k₁ ↦ let (i, h, k₂) = of-concat entries (sh .steps) no-step m k₁ in entry-inside i m h k₂
+      ]
+
+  named-once : (i : ℕ) → i < length (sh .exprs) → times i (exprs-named sh) ≤ 1
+  unfolding uses-right
+  named-once i h =
+      let a = all? (λ (i, e). eqb (times i (exprs-named sh)) 1) (numbered 0 (sh .exprs)) in
+      let b = all? (λ (n, s). use-right (s .kind) (times n (named (sh .steps)))) (numbered 0 (sh .steps)) in
+      let c = all? (λ id. eqb (times id (cache-ids (sh .steps))) 1) (cache-ids (sh .steps)) in
+      let t = entry-at (λ (i, e). eqb (times i (exprs-named sh)) 1) (sh .exprs) no-expr (and-left a b (and-left (a && b) c (wf .uses))) i h in
+      omega (arith, eqb→eq (times i (exprs-named sh)) 1 t)
+
+  pub once-at-start : Once (sh .exprs) (sh .steps)
+  unfolding exprs-named
+  once-at-start w =
+      let es = sh .exprs in
+      let n = length es in
+      let L = load w es in
+      let children = concat-map (λ (e : Expr). e .children) es in
+      omega (
+        arith,
+        no-more L n (exprs-named sh) named-inside named-once,
+        sum-append L children (concat-map entries (sh .steps)),
+        sum-concat L entries (sh .steps),
+        sum-concat L (λ (e : Expr). e .children) es,
+        below-add L w (λ p. sum L (kids es p)) n (λ p _. load-kids w es (earlier-of es formed-at-start) p),
+        below-records (λ (e : Expr). sum L (e .children)) es no-expr,
+      )

@@ -1,0 +1,124 @@
+-- What is printed is small as a run begins: the records by the tables, the edges as the graph is built.
+use mathlib.Core.Path.{refl}
+use mathlib.Core.Logic.{inl, inr}
+use Prim.Native.Nat.{ℕ, zero, suc, _+_, _≤_, _<_}
+use native.Mathlib.Omega.{arith}
+use mathlib.Core.Bool.{Bool, true, false, _&&_, not}
+use mathlib.Core.Option.{some}
+use mathlib.Core.List.{List, [], _∷_, _++_, map, List·Memᴰ, List·Memᴰ·head, List·Memᴰ·tail, List·Memᴰ·not-nil, List·Memᴰ·cases-cons, List·Memᴰ·append-cases}
+use lib.Dec.{T, ltb, ltb→lt}
+use lib.ListN.{length, getD}
+use Rattle.plan.specs.declared.ir.IR.{IR}
+use Rattle.plan.specs.Kinds.{same-ir}
+use Rattle.plan.specs.Lists.{if_then_else_, all?, select, numbered}
+use Rattle.plan.specs.Sheet.{Step, Sheet, _then_, no-expr, no-step, expr-at, step-at, in-expr-table, in-step-table}
+use Rattle.plan.specs.Faults.{references-right, children-earlier, inputs-earlier, exprs-there}
+use Rattle.plan.specs.Graph.{Edge, graph, grow, popped, following, opens, edges-into, sinks, most-places}
+use Rattle.plan.specs.Visit.{no-edge}
+use Rattle.plan.specs.Walks.{begin}
+use Rattle.claims.specs.WellFormed.{WellFormed}
+use Rattle.claims.proofs.Booleans.{and-left, and-right, all-at, of-all, entry-at}
+use Rattle.claims.proofs.Tables.{few-children, small-option, of-step-table}
+use Rattle.claims.proofs.RunLimits.{few-steps}
+use Rattle.claims.proofs.Every.{Every, every-of, every-member, every-both, member-at}
+use Rattle.claims.proofs.Printable.{Slim, Plain, Short-edge, Printable}
+
+-- The edges as the graph is built ----------------------------------------------------------------------------------------------
+
+no-edge-short : Short-edge no-edge
+no-edge-short = record { consumer = omega arith; slot = omega arith }
+
+numbered-short : (n j : ℕ) (ms : List ℕ) → n < 32 → j + length ms ≤ 8
+    → Every Short-edge no-edge (map (λ (k, m). record { consumer = n; slot = k; producer = some m; unordered = false }) (numbered j ms))
+unfolding numbered
+numbered-short n j [] h k i = no-edge-short
+numbered-short n j (m ∷ ms) h k zero = record { consumer = h; slot = omega arith }
+numbered-short n j (m ∷ ms) h k (suc i) = numbered-short n (suc j) ms h (omega arith) i
+
+module _ (ps : List Step) (plain : Every Plain no-step ps) where
+  following-few : (met past : List ℕ) (n : ℕ) → length (following ps met past n) ≤ 8
+  unfolding following
+  following-few met past n = by (opens ps met past n)
+    where
+      by : (b : Bool) → length (if b then step-at ps n .inputs else []) ≤ 8
+      by true = plain n .few-inputs
+      by false = omega arith
+
+  following-small : (met past : List ℕ) (n m : ℕ) → List·Memᴰ m (following ps met past n) → m < 32
+  unfolding following
+  following-small met past n m = by (opens ps met past n)
+    where
+      by : (b : Bool) → List·Memᴰ m (if b then step-at ps n .inputs else []) → m < 32
+      by true k = every-member (λ m. m < 32) 0 (step-at ps n .inputs) (plain n .inputs) m k
+      by false k = absurd (List·Memᴰ·not-nil k)
+
+  grown-short : (f : ℕ) (met past waiting : List ℕ) (es : List Edge) → ((m : ℕ) → List·Memᴰ m waiting → m < 32) → Every Short-edge no-edge es
+      → Every Short-edge no-edge (grow f ps met past waiting es .1)
+  unfolding grow edges-into
+  grown-short zero met past waiting es h k = k
+  grown-short (suc f) met past [] es h k = k
+  grown-short (suc f) met past (n ∷ ns) es h k =
+      let ms = following ps met past n in
+      grown-short f met (n ∷ past) (ns ++ ms) (es ++ edges-into n ms)
+      (λ m j. elim (List·Memᴰ·append-cases ns j) [ inl j₁ ↦ h m (List·Memᴰ·tail j₁) | inr j₁ ↦ following-small met past n m j₁ ])
+      (every-both Short-edge no-edge es (edges-into n ms) k (numbered-short n 0 ms (h n (List·Memᴰ·head refl)) (omega (arith, following-few met past n))))
+
+sinks-below : (f : ℕ × Step → Bool) (k : ℕ) (l : List Step) (m : ℕ) → List·Memᴰ m (map (λ (n, s). n) (select f (numbered k l))) → m < k + length l
+unfolding select numbered
+sinks-below f k [] m j = absurd (List·Memᴰ·not-nil j)
+sinks-below f k (x ∷ l) m j = by (f (k, x)) (λ j. sinks-below f (suc k) l m j) j
+  where
+    by : (b : Bool) → (List·Memᴰ m (map (λ (n, s). n) (select f (numbered (suc k) l))) → m < suc k + length l)
+        → List·Memᴰ m (map (λ (n, s). n) (if b then (k, x) ∷ select f (numbered (suc k) l) else select f (numbered (suc k) l)))
+        → m < k + length (x ∷ l)
+    by true g j = elim (List·Memᴰ·cases-cons j) [ inl e ↦ omega arith | inr j₁ ↦ omega (arith, g j₁) ]
+    by false g j = omega (arith, g j)
+
+graph-short : (ps : List Step) → length ps ≤ 32 → Every Plain no-step ps → Every Short-edge no-edge (graph ps .1)
+unfolding graph sinks
+graph-short ps h plain =
+    grown-short ps plain (most-places ps) (popped ps) [] (sinks ps) [] (λ m j. omega (arith, sinks-below _ 0 ps m j)) (λ i. no-edge-short)
+
+-- A well-formed sheet ----------------------------------------------------------------------------------------------------------
+
+module _ (sh : Sheet) (wf : WellFormed sh) where
+  inputs-right : T (all? (inputs-earlier sh) (numbered 0 (sh .steps)))
+  unfolding references-right
+  inputs-right =
+      let a = all? children-earlier (numbered 0 (sh .exprs)) in
+      let b = all? (inputs-earlier sh) (numbered 0 (sh .steps)) in
+      and-right a b (and-left (a && b) (all? (exprs-there sh) (numbered 0 (sh .steps))) (wf .references))
+
+  slim-at-start : Every Slim no-expr (sh .exprs)
+  slim-at-start =
+      every-of Slim no-expr (sh .exprs) (record { option = omega arith; few = omega arith })
+      (λ i h.
+      let t = all-at in-expr-table (sh .exprs) no-expr (wf .exprs-in-table) i h in
+      record { option = small-option (expr-at (sh .exprs) i) t; few = few-children (expr-at (sh .exprs) i) t })
+
+  plain-at-start : Every Plain no-step (sh .steps)
+  unfolding inputs-earlier
+  plain-at-start =
+      every-of Plain no-step (sh .steps)
+      (record { small = record { a = omega arith; b = omega arith; c = omega arith }; few-inputs = omega arith; few-exprs = omega arith; few-aggs = omega arith; inputs = λ i. omega arith })
+      (λ n h.
+      let s = step-at (sh .steps) n in
+      let t = of-step-table s (all-at in-step-table (sh .steps) no-step (wf .steps-in-table) n h) in
+      let u = entry-at (inputs-earlier sh) (sh .steps) no-step inputs-right n h in
+      record {
+        small = record { a = t .a; b = t .b; c = t .c };
+        few-inputs = t .few-inputs;
+        few-exprs = t .few-exprs;
+        few-aggs = t .few-aggs;
+        inputs =
+            every-of (λ m. m < 32) 0 (s .inputs) (omega arith)
+            (λ i g.
+            let m = getD (s .inputs) i 0 in
+            let v = and-left (ltb m n) _ (of-all (λ m. ltb m n && not (same-ir (step-at (sh .steps) m .kind) IR.Sink)) (s .inputs) u m (member-at (s .inputs) 0 i g)) in
+            omega (arith, ltb→lt m n v, few-steps sh wf));
+      })
+
+  pub printable-begin : Printable (begin sh)
+  unfolding begin
+  printable-begin =
+      record { exprs = slim-at-start; steps = plain-at-start; edges = graph-short (sh .steps) (few-steps sh wf) plain-at-start; removed = omega arith }
