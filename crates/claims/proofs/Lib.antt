@@ -42,3 +42,4 @@ pub mod Every
 pub mod Printable
 pub mod PrintableStart
 pub mod WithinLimits
+pub mod Demand3
