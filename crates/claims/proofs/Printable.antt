@@ -75,10 +75,18 @@ All-plain = Every Plain no-step
 
 plain-ruled : (s s′ : Step) → Ruled s s′ → Plain s → Plain s′
 plain-ruled s s′ k p =
+    let lists : (length (s′ .exprs) ≤ 8) × (length (s′ .aggs) ≤ 8) =
     elim (k .lists) [
-      | inl (i, j, _) ↦ record { small = k .small (p .small); few-inputs = rw (k .inputs) (p .few-inputs); few-exprs = rw i (p .few-exprs); few-aggs = rw j (p .few-aggs); inputs = rw (k .inputs) (p .inputs) }
-      | inr (i, j, _) ↦ record { small = k .small (p .small); few-inputs = rw (k .inputs) (p .few-inputs); few-exprs = rw i (omega arith); few-aggs = rw j (omega arith); inputs = rw (k .inputs) (p .inputs) }
-    ]
+      | inl (i, j, _) ↦ (rw i (p .few-exprs), rw j (p .few-aggs))
+      | inr (i, j, _) ↦ (rw i (omega arith), rw j (omega arith))
+    ] in
+    record {
+      small = k .small (p .small);
+      few-inputs = rw (k .inputs) (p .few-inputs);
+      few-exprs = lists .0;
+      few-aggs = lists .1;
+      inputs = rw (k .inputs) (p .inputs);
+    }
 
 plain-with-input : (k input : ℕ) (s : Step) → input < 32 → Plain s → Plain (with-input k input s)
 plain-with-input k input s h p =

@@ -1,4 +1,4 @@
--- Sums over lists, and over the numbers below one.
+-- Sums over lists, and over all numbers below a given one.
 use mathlib.Core.Path.{_≡_, refl, ap, ap₂}
 use mathlib.Core.Logic.{_⊎_, inl, inr}
 use Prim.Native.Nat.{ℕ, zero, suc, _+_, _≤_, _<_}
