@@ -1,4 +1,4 @@
--- Demand 3, of every sequence of bytes; and the limits of every accepted sheet.
+-- Demand 3, of every sequence of bytes.
 use mathlib.Core.Path.{_≡_, sym}
 use mathlib.Core.List.{List, _++_}
 use Prim.Native.Nat.{ℕ}
@@ -8,14 +8,10 @@ use Rattle.plan.specs.Walks.{down, up, simplify-and-fetch-orderings}
 use Rattle.plan.specs.Text.{printed, edges-block, tally-line}
 use Rattle.plan.specs.Finished.{run, finished}
 use Rattle.claims.specs.Demand3.{Finished-run, Demand-3}
-use Rattle.claims.specs.Limits.{Within-limits}
 use Rattle.claims.proofs.Outcomes.{both-done, same-value}
-use Rattle.claims.proofs.Taken.{well-formed}
 use Rattle.claims.proofs.Visits.{visits-counted}
 use Rattle.claims.proofs.Removals.{removal}
 use Rattle.claims.proofs.LooksBounded.{looks-down, looks-up}
-use Rattle.claims.proofs.Sizes.{few-places, few-edges}
-use Rattle.claims.proofs.WithinLimits.{limits}
 
 finished-run : (s out : List ℕ) → finished s ≡ done out → Finished-run s out
 unfolding finished run simplify-and-fetch-orderings printed edges-block tally-line
@@ -37,6 +33,3 @@ finished-run s out e =
 
 pub demand-3 : (s : List ℕ) → Demand-3 s
 demand-3 s = record { finishes = finished-run s; looks-down = looks-down s; looks-up = looks-up s }
-
-pub within-limits : Within-limits
-within-limits s sh a = let w = well-formed s sh a in limits s sh a (few-places sh w) (few-edges sh w)

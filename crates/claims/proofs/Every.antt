@@ -1,15 +1,14 @@
 -- A property of every entry of a list, and of what stands past its end.
-use mathlib.Core.Path.{_≡_, refl, sym, subst}
+use mathlib.Core.Path.{_≡_, sym, subst}
 use mathlib.Core.Logic.{inl, inr}
 use Prim.Native.Nat.{ℕ, zero, suc, _<_}
 use native.Mathlib.Omega.{arith}
-use native.Mathlib.Nat.{not-suc-le-zero}
 use native.Mathlib.Decide.{decLt}
-use mathlib.Core.List.{List, [], _∷_, _++_, map, List·Memᴰ, List·Memᴰ·head, List·Memᴰ·tail, List·Memᴰ·not-nil, List·Memᴰ·cases-cons}
+use mathlib.Core.List.{List, [], _∷_, _++_, map, List·Memᴰ, List·Memᴰ·not-nil, List·Memᴰ·cases-cons}
 use lib.ListN.{length, getD, set, List·getD-eq-default}
 
 module _ {A : Type 0} where
-  -- a member stands somewhere, and what stands somewhere is a member
+  -- a member stands somewhere
   pub place-of : (l : List A) (d a : A) → List·Memᴰ a l → (i : ℕ) × (i < length l) × (getD l i d ≡ a)
   place-of [] d a m = absurd (List·Memᴰ·not-nil m)
   place-of (x ∷ l) d a m =
@@ -17,11 +16,6 @@ module _ {A : Type 0} where
         | inl e ↦ (0, omega arith, sym e)
         | inr k ↦ let (i, h, e) = place-of l d a k in (suc i, omega arith, e)
       ]
-
-  pub member-at : (l : List A) (d : A) (i : ℕ) → i < length l → List·Memᴰ (getD l i d) l
-  member-at [] d i h = absurd (not-suc-le-zero h)
-  member-at (x ∷ l) d zero h = List·Memᴰ·head refl
-  member-at (x ∷ l) d (suc i) h = List·Memᴰ·tail (member-at l d i (omega arith))
 
 module _ {A : Type 0} (P : A → Type 0) (d : A) where
   abbrev pub Every : List A → Type 0

@@ -13,7 +13,8 @@ use Rattle.plan.specs.Sheet.{Expr, no-expr, expr-at}
 use Rattle.plan.specs.Faults.{reach, tree}
 use Rattle.claims.specs.Demand3.{records}
 use Rattle.claims.specs.Limits.{Children-earlier}
-use Rattle.claims.proofs.Sums.{sum-eq, sum-le, sum-none, sum-concat, sum-ones, mark, mark-own, mark-other, counted-in}
+use Rattle.claims.proofs.Counts.{sum-eq, sum-le, sum-concat, sum-ones, stands-in}
+use Rattle.claims.proofs.Sums.{sum-none, mark, mark-own, mark-other}
 
 abbrev pub kids : List Expr → ℕ → List ℕ
 kids es p = expr-at es p .children
@@ -49,7 +50,7 @@ size-records es qs = sym (sum-ones (records es qs)) ∙ load-records (λ _. 1) e
 
 -- a record that the load of a list counts is among its records
 pub among-records : (v : ℕ) (es : List Expr) (qs : List ℕ) → 1 ≤ sum (load (mark v) es) qs → List·Memᴰ v (records es qs)
-among-records v es qs h = counted-in v (records es qs) (rw (load-records (mark v) es qs) h)
+among-records v es qs h = stands-in v (records es qs) (rw (load-records (mark v) es qs) h)
 
 -- weighing less
 pub load-le : (v w : ℕ → ℕ) (es : List Expr) (p : ℕ) → ((q : ℕ) → v q ≤ w q) → load v es p ≤ load w es p

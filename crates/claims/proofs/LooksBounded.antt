@@ -15,7 +15,8 @@ use Rattle.claims.specs.WellFormed.{Accepted, WellFormed}
 use Rattle.claims.specs.Demand3.{Down, Up, Looks-bounded}
 use Rattle.claims.proofs.Taken.{well-formed}
 use Rattle.claims.proofs.Walks.{two-ways, walk-keeps, trace-keeps}
-use Rattle.claims.proofs.Sums.{sum-eq, sum-le, sum-set, sum-set-le, sum-below}
+use Rattle.claims.proofs.Counts.{sum-eq, sum-le}
+use Rattle.claims.proofs.Sums.{sum-set, sum-set-le, sum-below}
 use Rattle.claims.proofs.Loads.{load}
 use Rattle.claims.proofs.Changes.{changed-formed, changed-length, changed-loads}
 use Rattle.claims.proofs.Implodes.{Inside, old-loads}

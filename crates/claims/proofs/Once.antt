@@ -6,7 +6,7 @@ use native.Mathlib.Omega.{arith}
 use native.Mathlib.Nat.{le-refl, le-trans, not-suc-le-zero, mul-le-mul}
 use native.Mathlib.Decide.{decLt}
 use mathlib.Core.Bool.{_&&_}
-use mathlib.Core.List.{List, [], _∷_, _++_, List·Memᴰ, List·Memᴰ·head, List·Memᴰ·tail, List·Memᴰ·not-nil, List·Memᴰ·append-cases}
+use mathlib.Core.List.{List, [], _∷_, _++_, List·Memᴰ, List·Memᴰ·head, List·Memᴰ·tail, List·Memᴰ·append-cases}
 use lib.Dec.{T, eqb, eqb→eq, ltb, leb→le}
 use lib.ListN.{length, getD, List·getD-eq-default}
 use Rattle.plan.specs.Lists.{all?, sum, concat-map, numbered, times}
@@ -14,7 +14,8 @@ use Rattle.plan.specs.Sheet.{Expr, Step, Sheet, no-expr, no-step, expr-at, step
 use Rattle.plan.specs.Faults.{references-right, children-earlier, inputs-earlier, exprs-there, exprs-named, uses-right, use-right, named, cache-ids}
 use Rattle.claims.specs.WellFormed.{WellFormed}
 use Rattle.claims.proofs.Booleans.{and-left, and-right, entry-at, all-at, of-all}
-use Rattle.claims.proofs.Sums.{sum-append, sum-concat, sum-below, below-le, below-add, mark, mark-own}
+use Rattle.claims.proofs.Counts.{mem-concat, sum-append, sum-concat}
+use Rattle.claims.proofs.Sums.{sum-below, below-le, below-add, mark, mark-own}
 use Rattle.claims.proofs.Loads.{kids, load, load-kids}
 use Rattle.claims.proofs.Tables.{sort-has-input}
 use Rattle.claims.proofs.Changes.{Fits, Formed, earlier-of, nothing-fits}
@@ -68,16 +69,6 @@ below-records f (x ∷ l) d = omega (arith, below-front (λ i. f (getD (x ∷ l)
 
 -- A well-formed sheet --------------------------------------------------------------------------------------------------------
 
--- a member of the lists that a list's entries have
-of-concat : {A : Type 0} (f : A → List ℕ) (l : List A) (d : A) (m : ℕ) → List·Memᴰ m (concat-map f l) → (i : ℕ) × (i < length l) × List·Memᴰ m (f (getD l i d))
-unfolding concat-map
-of-concat f [] d m k = absurd (List·Memᴰ·not-nil k)
-of-concat f (x ∷ l) d m k =
-    elim (List·Memᴰ·append-cases (f x) k) [
-      | inl k₁ ↦ (0, omega arith, k₁)
-      | inr k₁ ↦ let (i, h, k₂) = of-concat f l d m k₁ in (suc i, omega arith, k₂)
-    ]
-
 module _ (sh : Sheet) (wf : WellFormed sh) where
   children-right : T (all? children-earlier (numbered 0 (sh .exprs)))
   unfolding references-right
@@ -118,9 +109,9 @@ module _ (sh : Sheet) (wf : WellFormed sh) where
   named-inside m k =
       elim (List·Memᴰ·append-cases (concat-map (λ (e : Expr). e .children) (sh .exprs)) k) [
         | inl k₁ ↦
-            let (i, h, k₂) = of-concat (λ (e : Expr). e .children) (sh .exprs) no-expr m k₁ in
+            let (i, h, k₂) = mem-concat (λ (e : Expr). e .children) (sh .exprs) no-expr m k₁ in
             omega (arith, formed-at-start i .earlier m k₂)
-        | inr k₁ ↦ let (i, h, k₂) = of-concat entries (sh .steps) no-step m k₁ in entry-inside i m h k₂
+        | inr k₁ ↦ let (i, h, k₂) = mem-concat entries (sh .steps) no-step m k₁ in entry-inside i m h k₂
       ]
 
   named-once : (i : ℕ) → i < length (sh .exprs) → times i (exprs-named sh) ≤ 1

@@ -19,8 +19,9 @@ use Rattle.plan.specs.Walks.{begin}
 use Rattle.claims.specs.WellFormed.{WellFormed}
 use Rattle.claims.proofs.Booleans.{and-left, and-right, all-at, of-all, entry-at}
 use Rattle.claims.proofs.Tables.{few-children, small-option, of-step-table}
-use Rattle.claims.proofs.RunLimits.{few-steps}
-use Rattle.claims.proofs.Every.{Every, every-of, every-member, every-both, member-at}
+use Rattle.claims.proofs.Sizes.{few-steps}
+use Rattle.claims.proofs.Counts.{mem-at}
+use Rattle.claims.proofs.Every.{Every, every-of, every-member, every-both}
 use Rattle.claims.proofs.Printable.{Slim, Plain, Short-edge, Printable}
 
 -- The edges as the graph is built ----------------------------------------------------------------------------------------------
@@ -114,7 +115,7 @@ module _ (sh : Sheet) (wf : WellFormed sh) where
             every-of (λ m. m < 32) 0 (s .inputs) (omega arith)
             (λ i g.
             let m = getD (s .inputs) i 0 in
-            let v = and-left (ltb m n) _ (of-all (λ m. ltb m n && not (same-ir (step-at (sh .steps) m .kind) IR.Sink)) (s .inputs) u m (member-at (s .inputs) 0 i g)) in
+            let v = and-left (ltb m n) _ (of-all (λ m. ltb m n && not (same-ir (step-at (sh .steps) m .kind) IR.Sink)) (s .inputs) u m (mem-at (s .inputs) i 0 g)) in
             omega (arith, ltb→lt m n v, few-steps sh wf));
       })
 

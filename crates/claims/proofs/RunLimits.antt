@@ -20,7 +20,9 @@ use Rattle.claims.specs.Demand3.{Down, Up, records}
 use Rattle.claims.specs.Limits.{Visit-limits}
 use Rattle.claims.proofs.Walks.{two-ways, walk-keeps, trace-keeps}
 use Rattle.claims.proofs.Visits.{walked}
-use Rattle.claims.proofs.Sums.{sum-le, sum-ones, sum-set, sum-below}
+use Rattle.claims.proofs.Sizes.{few-steps, few-places, few-edges}
+use Rattle.claims.proofs.Counts.{sum-le, sum-ones}
+use Rattle.claims.proofs.Sums.{sum-set, sum-below}
 use Rattle.claims.proofs.Loads.{size-records}
 use Rattle.claims.proofs.Changes.{earlier-of, changed-length}
 use Rattle.claims.proofs.Implodes.{not-scalar, still-to-append}
@@ -156,15 +158,11 @@ neither : (a b : Bool) → T (not (a || b)) → T (not a) × T (not b)
 neither true b t = absurd t
 neither false b t = (tt, t)
 
-pub few-steps : (sh : Sheet) → WellFormed sh → length (sh .steps) ≤ 32
-unfolding over-limits
-few-steps sh wf = nltb→le 32 (length (sh .steps)) (neither (ltb 32 (length (sh .steps))) (ltb 128 (expr-count sh)) (wf .within-limits) .0)
-
 few-exprs : (sh : Sheet) → WellFormed sh → expr-count sh ≤ 128
 unfolding over-limits
 few-exprs sh wf = nltb→le 128 (expr-count sh) (neither (ltb 32 (length (sh .steps))) (ltb 128 (expr-count sh)) (wf .within-limits) .1)
 
-module _ (sh : Sheet) (wf : WellFormed sh) (places : length (graph (sh .steps) .0) ≤ 288) (edges : length (graph (sh .steps) .1) ≤ 256) where
+module _ (sh : Sheet) (wf : WellFormed sh) where
   within-begin : Within 288 (length (graph (sh .steps) .0)) (begin sh)
   unfolding begin expr-count
   within-begin =
@@ -172,8 +170,8 @@ module _ (sh : Sheet) (wf : WellFormed sh) (places : length (graph (sh .steps) .
         sound = sound-begin sh wf;
         room = omega (arith, few-exprs sh wf, sum-le (still-to-append (sh .exprs)) _ (sh .steps) (λ s _. few-implodes (sh .exprs) s));
         steps = few-steps sh wf;
-        edges = edges;
-        visits = omega arith;
+        edges = few-edges sh wf;
+        visits = omega (arith, few-places sh wf);
         looks = omega arith;
       }
 
@@ -187,7 +185,7 @@ module _ (sh : Sheet) (wf : WellFormed sh) (places : length (graph (sh .steps) .
         room = k .room;
         steps = k .steps;
         edges = k .edges;
-        visits = omega (arith, k .visits, t .back);
+        visits = omega (arith, k .visits, t .back, few-places sh wf);
         looks = k .looks;
       }
 

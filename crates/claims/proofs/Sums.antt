@@ -1,42 +1,22 @@
 -- Sums over lists, and over all numbers below a given one.
-use mathlib.Core.Path.{_≡_, refl, ap, ap₂}
+use mathlib.Core.Path.{_≡_, refl, ap}
 use mathlib.Core.Logic.{_⊎_, inl, inr}
 use Prim.Native.Nat.{ℕ, zero, suc, _+_, _≤_, _<_}
 use native.Mathlib.Omega.{arith}
 use native.Mathlib.Nat.{add-le-add, not-suc-le-zero}
 use native.Mathlib.Decide.{ℕ-discrete, decLt}
 use mathlib.Core.Bool.{Bool, true, false}
-use mathlib.Core.List.{List, [], _∷_, _++_, List·Memᴰ, List·Memᴰ·head, List·Memᴰ·tail, List·Memᴰ·cases-cons}
-use lib.Dec.{T, eqb, eqb→eq, eqb-refl}
+use mathlib.Core.List.{List, [], _∷_, List·Memᴰ, List·Memᴰ·head, List·Memᴰ·tail, List·Memᴰ·cases-cons}
+use lib.Dec.{T, eqb, eqb-refl}
 use lib.ListN.{length, getD, set}
-use Rattle.plan.specs.Lists.{if_then_else_, sum, concat-map, times}
+use Rattle.plan.specs.Lists.{if_then_else_, sum}
 use Rattle.claims.proofs.Booleans.{differ}
 
 module _ {A : Type 0} where
-  pub sum-eq : (v w : A → ℕ) (l : List A) → ((a : A) → List·Memᴰ a l → v a ≡ w a) → sum v l ≡ sum w l
-  unfolding sum
-  sum-eq v w [] h = refl
-  sum-eq v w (x ∷ l) h = ap₂ (λ a b. a + b) (h x (List·Memᴰ·head refl)) (sum-eq v w l (λ a m. h a (List·Memᴰ·tail m)))
-
-  pub sum-le : (v w : A → ℕ) (l : List A) → ((a : A) → List·Memᴰ a l → v a ≤ w a) → sum v l ≤ sum w l
-  unfolding sum
-  sum-le v w [] h = omega arith
-  sum-le v w (x ∷ l) h = add-le-add (h x (List·Memᴰ·head refl)) (sum-le v w l (λ a m. h a (List·Memᴰ·tail m)))
-
   pub sum-none : (w : A → ℕ) (l : List A) → ((a : A) → List·Memᴰ a l → w a ≡ 0) → sum w l ≡ 0
   unfolding sum
   sum-none w [] h = refl
   sum-none w (x ∷ l) h = omega (arith, h x (List·Memᴰ·head refl), sum-none w l (λ a m. h a (List·Memᴰ·tail m)))
-
-  pub sum-append : (w : A → ℕ) (l m : List A) → sum w (l ++ m) ≡ sum w l + sum w m
-  unfolding sum
-  sum-append w [] m = omega arith
-  sum-append w (x ∷ l) m = omega (arith, sum-append w l m)
-
-  pub sum-ones : (l : List A) → sum (λ _. 1) l ≡ length l
-  unfolding sum
-  sum-ones [] = refl
-  sum-ones (x ∷ l) = omega (arith, sum-ones l)
 
   -- a member's part
   pub sum-part : (w : A → ℕ) (l : List A) (a : A) → List·Memᴰ a l → w a ≤ sum w l
@@ -83,11 +63,6 @@ module _ {A : Type 0} where
         | inr k ↦ elim (sum-beside l i y x (omega arith) k) [ inl e ↦ inl e | inr f ↦ inr (λ w. omega (arith, f w)) ]
       ]
 
-pub sum-concat : {A B : Type 0} (w : B → ℕ) (f : A → List B) (l : List A) → sum w (concat-map f l) ≡ sum (λ a. sum w (f a)) l
-unfolding sum concat-map
-sum-concat w f [] = refl
-sum-concat w f (x ∷ l) = omega (arith, sum-append w (f x) (concat-map f l), sum-concat w f l)
-
 -- the weighing that counts v alone: `times v l` is `sum (mark v) l`
 abbrev pub mark : ℕ → ℕ → ℕ
 mark v m = if eqb v m then 1 else 0
@@ -101,16 +76,6 @@ mark-own v = by (eqb v v) (eqb-refl v)
 
 pub mark-other : (v m : ℕ) → ¬ (v ≡ m) → mark v m ≡ 0
 mark-other v m n = rw (differ v m n)
-
--- what is counted stands in the list
-pub counted-in : (v : ℕ) (l : List ℕ) → 1 ≤ times v l → List·Memᴰ v l
-unfolding sum
-counted-in v [] h = absurd (not-suc-le-zero h)
-counted-in v (m ∷ l) h = by (eqb v m) (eqb→eq v m) (counted-in v l) h
-  where
-    by : (b : Bool) → (T b → v ≡ m) → (1 ≤ times v l → List·Memᴰ v l) → 1 ≤ (if b then 1 else 0) + times v l → List·Memᴰ v (m ∷ l)
-    by true e f h = List·Memᴰ·head (e tt)
-    by false e f h = List·Memᴰ·tail (f (omega arith))
 
 -- over the numbers below n
 unfoldable pub sum-below : (ℕ → ℕ) → ℕ → ℕ

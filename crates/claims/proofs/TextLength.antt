@@ -1,10 +1,9 @@
 -- How long the lines of the finished sheet are: numbers below 1000 take at most three digits.
 use mathlib.Core.Path.{_≡_, refl}
-use Prim.Native.Nat.{ℕ, zero, suc, _+_, _*_, _/_, _%_, _≤_, _<_, _^_}
+use Prim.Native.Nat.{ℕ, suc, _+_, _*_, _≤_, _<_, _^_}
 use native.Mathlib.Omega.{arith}
 use mathlib.Core.Bool.{Bool, true, false, not}
 use mathlib.Core.List.{List, [], _∷_, _++_, List·Memᴰ, List·Memᴰ·head, List·Memᴰ·tail}
-use lib.Dec.{T, ltb, nltb→le}
 use lib.ListN.{length, length-append}
 use Rattle.plan.specs.declared.aexpr.AExpr.{AExpr}
 use Rattle.plan.specs.declared.ir.IR.{IR}
@@ -13,37 +12,19 @@ use Rattle.plan.specs.Lists.{sum, concat-map, digit}
 use Rattle.plan.specs.Sheet.{Expr, Step}
 use Rattle.plan.specs.Graph.{Edge}
 use Rattle.plan.specs.Visit.{Run}
-use Rattle.plan.specs.Text.{digits, decimal, line, expr-line, step-line, edge-line, tally-line}
-use Rattle.claims.proofs.Sums.{sum-append}
-
--- powers of ten
-ten : ℕ → ℕ
-ten zero = 1
-ten (suc k) = 10 * ten k
-
--- a number below ten to the k has at most k digits
-digits-few : (k f n : ℕ) → n < ten (suc k) → length (digits f n) ≤ suc k
-unfolding digits ten
-digits-few k zero n h = omega arith
-digits-few k (suc f) n h = by (ltb n 10) (nltb→le n 10) k h (λ j. digits-few j f (n / 10))
-  where
-    by : (b : Bool) → (T (not b) → 10 ≤ n) → (k : ℕ) → n < ten (suc k) → ((j : ℕ) → n / 10 < ten (suc j) → length (digits f (n / 10)) ≤ suc j)
-        → length {A = ℕ} (elim b as (λ _. List ℕ) [ true ↦ (48 + n) ∷ [] | false ↦ digits f (n / 10) ++ ((48 + n % 10) ∷ []) ]) ≤ suc k
-    by true t k h ih = omega arith
-    by false t zero h ih = absurd (omega (arith, t tt))
-    by false t (suc k) h ih = omega (arith, length-append (digits f (n / 10)) ((48 + n % 10) ∷ []), ih k (omega arith))
+use Rattle.plan.specs.Decimals.{decimal-short}
+use Rattle.plan.specs.Text.{decimal, line, expr-line, step-line, edge-line, tally-line}
+use Rattle.claims.proofs.Counts.{sum-append}
 
 -- a number behind its comma
 abbrev width : ℕ → ℕ
 width n = suc (length (decimal n))
 
 short-width : (n : ℕ) → n < 1000 → width n ≤ 4
-unfolding ten
-short-width n h = omega (arith, digits-few 2 (suc n) n h)
+short-width n h = omega (arith, decimal-short 2 n h)
 
 long-width : (n : ℕ) → n < 2 ^ 64 → width n ≤ 21
-unfolding ten
-long-width n h = omega (arith, digits-few 19 (suc n) n (omega arith))
+long-width n h = omega (arith, decimal-short 19 n (omega arith))
 
 length-concat : {A B : Type 0} (f : A → List B) (l : List A) → length (concat-map f l) ≡ sum (λ a. length (f a)) l
 unfolding sum concat-map

@@ -12,7 +12,8 @@ use Rattle.plan.specs.Walks.{begin, down, up, simplify-and-fetch-orderings}
 use Rattle.plan.specs.Text.{printed, exprs-block, steps-block, edges-block, tally-line, expr-line, step-line, edge-line}
 use Rattle.plan.specs.Finished.{run, finished}
 use Rattle.claims.specs.WellFormed.{Accepted}
-use Rattle.claims.specs.Limits.{Limits}
+use Rattle.claims.specs.Limits.{Within-limits}
+use Rattle.claims.proofs.Sizes.{few-places}
 use Rattle.claims.proofs.Outcomes.{both-done, same-value}
 use Rattle.claims.proofs.Taken.{well-formed}
 use Rattle.claims.proofs.Walks.{walk-keeps}
@@ -94,7 +95,7 @@ Kept ns r = Sound r × Printable r
 kept-visit : (n : ℕ) (ns : List ℕ) (r r′ : Run) → Kept (n ∷ ns) r → simplify-ir-node-orders n r ≡ done r′ → Kept ns r′
 kept-visit n ns r r′ (sound, p) e = (sound-visit n ns r r′ sound e, printable-visit n r r′ sound p e)
 
-module _ (s : List ℕ) (sh : Sheet) (accepted : Accepted s sh) (places : length (graph (sh .steps) .0) ≤ 288) (edges : length (graph (sh .steps) .1) ≤ 256) where
+module _ (s : List ℕ) (sh : Sheet) (accepted : Accepted s sh) where
   text-short : (out : List ℕ) → finished s ≡ done out → length out ≤ 14080
   unfolding finished run simplify-and-fetch-orderings down up
   text-short out e =
@@ -105,14 +106,14 @@ module _ (s : List ℕ) (sh : Sheet) (accepted : Accepted s sh) (places : length
       let (half, d, u) = both-done (down sh) up (subst (λ (x : Sheet). simplify-and-fetch-orderings x ≡ done r) same e₃) in
       let kept-half = walk-keeps Kept kept-visit (graph (sh .steps) .0) (begin sh) (sound-begin sh wf, printable-begin sh wf) d in
       let kept = walk-keeps Kept kept-visit (half .back) half kept-half u in
-      subst (λ (l : List ℕ). length l ≤ 14080) (same-value e₂) (printed-short r (within-whole sh wf places edges half r d u) (kept .1))
+      subst (λ (l : List ℕ). length l ≤ 14080) (same-value e₂) (printed-short r (within-whole sh wf half r d u) (kept .1))
 
-  pub limits : Limits s sh
-  limits =
-      let wf = well-formed s sh accepted in
-      record {
-        places = places;
-        visited-down = limits-down sh wf places edges;
-        visited-up = limits-up sh wf places edges;
-        text = text-short;
-      }
+pub within-limits : Within-limits
+within-limits s sh accepted =
+    let wf = well-formed s sh accepted in
+    record {
+      places = few-places sh wf;
+      visited-down = limits-down sh wf;
+      visited-up = limits-up sh wf;
+      text = text-short s sh accepted;
+    }
