@@ -1,0 +1,62 @@
+-- How the code holds the edges of a run, and what its rules read and give: each tied to the definition's record.
+use Prim.Native.Nat.{ℕ}
+use mathlib.Core.Bool.{Bool, true, false, _&&_}
+use mathlib.Core.List.{List, []}
+use mathlib.Core.Option.{Option, none, some}
+use lib.Dec.{eqb}
+use lib.ListN.{getD, replicate}
+use Rattle.plan.specs.Lists.{if_then_else_}
+use Rattle.plan.specs.Sheet.{Step}
+use Rattle.plan.specs.Graph.{Edge}
+use Rattle.plan.specs.Stored.{table}
+use Rattle.plan.specs.Visit.{Loosened}
+use Rattle.plan.specs.Visit as Visit
+use Rattle.simplify_ordering.specs.declared.around.Around.{Around}
+use Rattle.simplify_ordering.specs.declared.rules.Observable.{Observable}
+use Rattle.simplify_ordering.specs.declared.rules.Options.{Options}
+use Rattle.simplify_ordering.specs.declared.rules.Ruled.{Ruled}
+
+-- Edges: consumer and slot never change; an edge into a removed sort has the producer 255, which is no step's ------------------
+
+abbrev pub producer-of : ℕ → Option ℕ
+producer-of p = if eqb p 255 then none else some p
+
+unfoldable pub held-edge : List ℕ → List ℕ → List ℕ → List Bool → ℕ → Edge
+held-edge consumer slot producer unordered k =
+    record {
+      consumer = getD consumer k 0;
+      slot = getD slot k 0;
+      producer = producer-of (getD producer k 0);
+      unordered = getD unordered k false;
+    }
+
+unfoldable pub held-edges : List ℕ → List ℕ → List ℕ → List Bool → ℕ → List Edge
+held-edges consumer slot producer unordered n = table (held-edge consumer slot producer unordered) 0 n
+
+-- What a rule reads and gives -------------------------------------------------------------------------------------------------
+
+abbrev pub around-of : Around → Visit.Around
+around-of e = record { ins = e .ins; in₀ = e .in0; in₁ = e .in1; out = e .out; outs = e .outs }
+
+abbrev pub observable-of : Observable → Visit.Observable
+observable-of o = record { exprs = o .exprs; aggs = o .aggs; internal = o .internal }
+
+-- a step with those options, and as many expressions
+abbrev pub step-of : Options → Step
+step-of s = record { kind = s .kind; a = s .a; b = s .b; c = s .c; inputs = []; exprs = replicate (s .n2) 0; aggs = [] }
+
+abbrev pub ruled-of : Step × Loosened → Ruled
+ruled-of (s, l) = record { kind = s .kind; a = s .a; b = s .b; c = s .c; in0 = l .in₀; in1 = l .in₁; out = l .out }
+
+-- The edges of a step, one edge more in front of those gone through -------------------------------------------------------------
+
+-- into and out-of: is the edge one of the step's? u: is it unordered?
+abbrev pub around-with : Bool → Bool → Bool → Visit.Around → Visit.Around
+around-with into out-of u e =
+    record {
+      ins = if into then u && e .ins else e .ins;
+      in₀ = if into then u else e .in₀;
+      in₁ = if into then e .in₀ else e .in₁;
+      out = if out-of then u else e .out;
+      outs = if out-of then u && e .outs else e .outs;
+    }
