@@ -3,19 +3,21 @@ use mathlib.Core.Path.{_≡_, refl, sym, ap, ap₂, _∙_}
 use Prim.Native.Nat.{ℕ, zero, suc, _+_, _≤_, _<_}
 use native.Mathlib.Omega.{arith}
 use native.Mathlib.Numerals.{add-one}
+use native.Mathlib.Nat.{not-suc-le-zero}
+use native.Mathlib.Decide.{ℕ-discrete}
 use borrow.Author.Tests.{ne-eqb}
 use mathlib.Core.Bool.{Bool, true, false, _&&_}
 use mathlib.Core.List.{List, [], _∷_, map}
 use mathlib.Core.Option.{Option, none, some}
 use lib.Dec.{T, eqb, eqb→eq}
-use lib.ListN.{length, getD, drop}
-use lib.Seq.{drop-cons, drop-length}
+use lib.ListN.{length, getD, drop, set}
+use lib.Seq.{drop-cons, drop-length, getD-set-same, getD-set-other}
 use Rattle.plan.specs.Lists.{if_then_else_, all?, select}
 use Rattle.plan.specs.Graph.{Edge}
 use Rattle.plan.specs.Stored.{table}
 use Rattle.plan.specs.StoredLaws.{length-table, table-at}
-use Rattle.plan.specs.Visit.{Around, around, is-into, is-out-of, no-edge, out-edge, ins-unordered, outs-unordered}
-use Rattle.simplify_ordering.specs.Held.{producer-of, held-edge, held-edges, around-with}
+use Rattle.plan.specs.Visit.{Around, around, is-into, is-out-of, no-edge, out-edge, ins-unordered, outs-unordered, loosen, loosened}
+use Rattle.simplify_ordering.specs.Held.{producer-of, held-edge, held-edges, around-with, mark}
 
 -- one edge more
 pub around-cons : (n : ℕ) (d : Edge) (ds : List Edge) → around n (d ∷ ds) ≡ around-with (is-into n d) (is-out-of n d) (d .unordered) (around n ds)
@@ -83,3 +85,61 @@ module _ (consumer slot producer : List ℕ) (unordered : List Bool) (edges n : 
       (sym (out-of-held consumer slot producer unordered j n small)) (v ∙ ap (λ (m : ℕ). around n (drop m (table (held-edge consumer slot producer unordered) 0 edges))) (sym i))
       ∙ sym (around-cons n (held-edge consumer slot producer unordered j) (drop (j + 1) (table (held-edge consumer slot producer unordered) 0 edges)))
       ∙ ap (around n) (sym (next-edge (held-edge consumer slot producer unordered) edges j (omega arith)))
+
+-- Tables by their entries ----------------------------------------------------------------------------------------------------------
+
+module _ {A : Type 0} where
+  same-from : (f g : ℕ → A) (k n : ℕ) → ((j : ℕ) → k ≤ j → j < k + n → f j ≡ g j) → table f k n ≡ table g k n
+  unfolding table
+  same-from f g k zero h = refl
+  same-from f g k (suc n) h =
+      ap₂ (λ (x : A) (l : List A). x ∷ l) (h k (omega arith) (omega arith)) (same-from f g (suc k) n (λ j a b. h j (omega arith) (omega arith)))
+
+  pub same-table : (f g : ℕ → A) (n : ℕ) → ((j : ℕ) → j < n → f j ≡ g j) → table f 0 n ≡ table g 0 n
+  same-table f g n h = same-from f g 0 n (λ j a b. h j (omega arith))
+
+  pub map-table : {B : Type 0} (h : A → B) (f : ℕ → A) (k n : ℕ) → map h (table f k n) ≡ table (λ j. h (f j)) k n
+  unfolding table
+  map-table h f k zero = refl
+  map-table h f k (suc n) = ap (λ l. h (f k) ∷ l) (map-table h f (suc k) n)
+
+-- A loop that changes the entries of an array one after the other ------------------------------------------------------------------
+
+-- the first i are changed, the others as they were
+pub record Changed {A : Type 0} (d : A) (change : ℕ → A) (old now : List A) (i : ℕ) : Type 0 where
+  pub done : (j : ℕ) → j < i → getD now j d ≡ change j
+  pub rest : (j : ℕ) → i ≤ j → getD now j d ≡ getD old j d
+
+module _ {A : Type 0} (d : A) (change : ℕ → A) (old : List A) where
+  pub none-changed : Changed d change old old 0
+  none-changed = record { done = λ j h. absurd (not-suc-le-zero h); rest = λ j h. refl }
+
+  pub one-changed : (l : List A) (i : ℕ) (v : A) → i < length l → v ≡ change i → Changed d change old l i → Changed d change old (set l i v) (i + 1)
+  one-changed l i v h e c =
+      record {
+        done = λ j k. by j k (ℕ-discrete j i);
+        rest = λ j k. getD-set-other l i j v d (λ x. omega (arith, x)) ∙ c .rest j (omega arith);
+      }
+    where
+      by : (j : ℕ) → j < i + 1 → Dec (j ≡ i) → getD (set l i v) j d ≡ change j
+      by j k (yes x) = ap (λ m. getD (set l i v) m d) x ∙ getD-set-same l i v d h ∙ e ∙ ap change (sym x)
+      by j k (no x) = getD-set-other l i j v d x ∙ c .done j (omega (arith, x))
+
+-- Loosened edges -------------------------------------------------------------------------------------------------------------------
+
+module _ (consumer slot producer : List ℕ) (old : List Bool) (n : ℕ) (in₀ in₁ out : Bool) where
+  abbrev pub mark-at : ℕ → Bool
+  mark-at j = mark (getD old j false) (eqb (getD consumer j 0) n) (getD slot j 0) (eqb (getD producer j 0) n) in₀ in₁ out
+
+  pub all-loosened : n < 32 → (new : List Bool) (edges i : ℕ) → edges ≤ i → Changed false mark-at old new i
+      → held-edges consumer slot producer new edges ≡ map (loosened n (loosen in₀ in₁ out)) (held-edges consumer slot producer old edges)
+  unfolding held-edges held-edge
+  all-loosened small new edges i h c =
+      same-table (held-edge consumer slot producer new) (λ j. loosened n (loosen in₀ in₁ out) (held-edge consumer slot producer old j)) edges
+      (λ j k. edge j (c .done j (omega arith)) (out-of-held consumer slot producer old j n small))
+      ∙ sym (map-table (loosened n (loosen in₀ in₁ out)) (held-edge consumer slot producer old) 0 edges)
+    where
+      edge : (j : ℕ) → getD new j false ≡ mark-at j
+          → is-out-of n (held-edge consumer slot producer old j) ≡ eqb (getD producer j 0) n
+          → held-edge consumer slot producer new j ≡ loosened n (loosen in₀ in₁ out) (held-edge consumer slot producer old j)
+      edge j e o = rw (o, e)

@@ -1,6 +1,6 @@
 -- How the code holds the edges of a run, and what its rules read and give: each tied to the definition's record.
 use Prim.Native.Nat.{ℕ}
-use mathlib.Core.Bool.{Bool, true, false, _&&_}
+use mathlib.Core.Bool.{Bool, true, false, _&&_, _||_}
 use mathlib.Core.List.{List, []}
 use mathlib.Core.Option.{Option, none, some}
 use lib.Dec.{eqb}
@@ -60,3 +60,8 @@ around-with into out-of u e =
       out = if out-of then u else e .out;
       outs = if out-of then u && e .outs else e .outs;
     }
+
+-- Loosening: is an edge unordered afterwards? ------------------------------------------------------------------------------------
+
+abbrev pub mark : Bool → Bool → ℕ → Bool → Bool → Bool → Bool → Bool
+mark u into k out-of in₀ in₁ out = u || (into && (if eqb k 0 then in₀ else in₁)) || (out-of && out)
