@@ -5,8 +5,9 @@ use native.Mathlib.Omega.{arith}
 use native.Mathlib.Numerals.{add-one}
 use native.Mathlib.Nat.{not-suc-le-zero}
 use native.Mathlib.Decide.{ℕ-discrete}
-use borrow.Author.Tests.{ne-eqb}
-use mathlib.Core.Bool.{Bool, true, false, _&&_}
+use borrow.Author.Tests.{eq-eqb, ne-eqb}
+use mathlib.Core.Logic.{_≢_}
+use mathlib.Core.Bool.{Bool, true, false, _&&_, _||_}
 use mathlib.Core.List.{List, [], _∷_, map}
 use mathlib.Core.Option.{Option, none, some}
 use lib.Dec.{T, eqb, eqb→eq}
@@ -16,7 +17,8 @@ use Rattle.plan.specs.Lists.{if_then_else_, all?, select}
 use Rattle.plan.specs.Graph.{Edge}
 use Rattle.plan.specs.Stored.{table}
 use Rattle.plan.specs.StoredLaws.{length-table, table-at}
-use Rattle.plan.specs.Visit.{Around, around, is-into, is-out-of, no-edge, out-edge, ins-unordered, outs-unordered, loosen, loosened}
+use Rattle.plan.specs.Visit.{Around, around, is-into, is-out-of, no-edge, out-edge, ins-unordered, outs-unordered, loosen, loosened, relinked}
+use Rattle.claims.specs.Demand3.{leaving-among}
 use Rattle.simplify_ordering.specs.Held.{producer-of, held-edge, held-edges, around-with, mark}
 
 -- one edge more
@@ -143,3 +145,75 @@ module _ (consumer slot producer : List ℕ) (old : List Bool) (n : ℕ) (in₀ 
           → is-out-of n (held-edge consumer slot producer old j) ≡ eqb (getD producer j 0) n
           → held-edge consumer slot producer new j ≡ loosened n (loosen in₀ in₁ out) (held-edge consumer slot producer old j)
       edge j e o = rw (o, e)
+
+-- Relinked edges -------------------------------------------------------------------------------------------------------------------
+
+module _ (consumer slot producer : List ℕ) (old : List Bool) (n input : ℕ) where
+  abbrev pub producer-at : ℕ → ℕ
+  producer-at j = if eqb (getD consumer j 0) n then 255 else if eqb (getD producer j 0) n then input else getD producer j 0
+
+  abbrev pub unordered-at : ℕ → Bool
+  unordered-at j = eqb (getD consumer j 0) n || getD old j false
+
+  pub all-relinked : n < 32 → input < 32 → (producer′ : List ℕ) (new : List Bool) (edges i : ℕ) → edges ≤ i
+      → Changed 0 producer-at producer producer′ i → Changed false unordered-at old new i
+      → held-edges consumer slot producer′ new edges ≡ map (relinked n input) (held-edges consumer slot producer old edges)
+  unfolding held-edges held-edge
+  all-relinked small there producer′ new edges i h c e =
+      same-table (held-edge consumer slot producer′ new) (λ j. relinked n input (held-edge consumer slot producer old j)) edges
+      (λ j k. edge j (c .done j (omega arith)) (e .done j (omega arith)) (out-of-held consumer slot producer old j n small))
+      ∙ sym (map-table (relinked n input) (held-edge consumer slot producer old) 0 edges)
+    where
+      made-of : ℕ → ℕ → ℕ → Bool → Edge
+      made-of a b p u = record { consumer = a; slot = b; producer = producer-of p; unordered = u }
+
+      by : (i o : Bool) (a b p : ℕ) (u : Bool)
+          → made-of a b (if i then 255 else if o then input else p) (i || u)
+          ≡ (if i then record { consumer = a; slot = b; producer = none; unordered = true }
+          else if o then record { consumer = a; slot = b; producer = some input; unordered = u }
+          else made-of a b p u)
+      by true o a b p u = refl
+      by false true a b p u = rw (ne-eqb input 255 (λ x. absurd (omega (arith, x))))
+      by false false a b p u = refl
+
+      edge : (j : ℕ) → getD producer′ j 0 ≡ producer-at j → getD new j false ≡ unordered-at j
+          → is-out-of n (held-edge consumer slot producer old j) ≡ eqb (getD producer j 0) n
+          → held-edge consumer slot producer′ new j ≡ relinked n input (held-edge consumer slot producer old j)
+      edge j c e o =
+          ap₂ (made-of (getD consumer j 0) (getD slot j 0)) c e
+          ∙ by (eqb (getD consumer j 0) n) (eqb (getD producer j 0) n) (getD consumer j 0) (getD slot j 0) (getD producer j 0) (getD old j false)
+          ∙ ap
+          (λ (b : Bool).
+          if eqb (getD consumer j 0) n then record { consumer = getD consumer j 0; slot = getD slot j 0; producer = none; unordered = true }
+          else if b then record { consumer = getD consumer j 0; slot = getD slot j 0; producer = some input; unordered = getD old j false }
+          else held-edge consumer slot producer old j)
+          (sym o)
+
+-- The edge leaving a step: a loop from the last edge to the first, with r ≡ k + leaving-among n (drop k edges) -----------------------
+
+module _ (consumer slot producer : List ℕ) (unordered : List Bool) (edges n : ℕ) (small : n < 32) where
+  pub none-leaves : edges ≡ edges + leaving-among n (drop edges (held-edges consumer slot producer unordered edges))
+  unfolding held-edges leaving-among
+  none-leaves = rw (last-edges (held-edge consumer slot producer unordered) edges) (omega arith)
+
+  leaves : (j : ℕ) → j < edges → (b : Bool) → eqb (getD producer j 0) n ≡ b
+      → leaving-among n (drop j (held-edges consumer slot producer unordered edges))
+      ≡ (if b then 0 else suc (leaving-among n (drop (j + 1) (held-edges consumer slot producer unordered edges))))
+  unfolding held-edges leaving-among
+  leaves j h b e =
+      rw (next-edge (held-edge consumer slot producer unordered) edges j h, leaving-among, out-of-held consumer slot producer unordered j n small, e)
+      (by b (leaving-among n (drop (j + 1) (table (held-edge consumer slot producer unordered) 0 edges))))
+    where
+      by : (b : Bool) (m : ℕ) → _≡_ {A = ℕ} (elim b [ true ↦ 0 | false ↦ suc m ]) (if b then 0 else suc m)
+      by true m = refl
+      by false m = refl
+
+  pub leaves-here : (j : ℕ) → j < edges → getD producer j 0 ≡ n → j ≡ j + leaving-among n (drop j (held-edges consumer slot producer unordered edges))
+  leaves-here j h e = omega (arith, leaves j h true (eq-eqb (getD producer j 0) n e))
+
+  pub leaves-later : (j k r : ℕ) → j + 1 ≡ k → k ≤ edges → getD producer j 0 ≢ n
+      → r ≡ k + leaving-among n (drop k (held-edges consumer slot producer unordered edges))
+      → r ≡ j + leaving-among n (drop j (held-edges consumer slot producer unordered edges))
+  leaves-later j k r i h e v =
+      let w : r ≡ j + 1 + leaving-among n (drop (j + 1) (held-edges consumer slot producer unordered edges)) = rw i v in
+      omega (arith, w, leaves j (omega arith) false (ne-eqb (getD producer j 0) n e))
