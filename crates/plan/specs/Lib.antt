@@ -14,6 +14,7 @@ pub mod Walks
 pub mod Text
 pub mod Decimals
 pub mod StoredLaws
+pub mod StoredChanges
 pub mod Finished
 pub mod Computing
 pub mod Cases
