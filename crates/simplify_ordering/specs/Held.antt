@@ -1,14 +1,15 @@
 -- How the code holds the edges of a run, and what its rules read and give: each tied to the definition's record.
-use Prim.Native.Nat.{ℕ}
+use mathlib.Core.Path.{_≡_}
+use Prim.Native.Nat.{ℕ, _≤_, _<_}
 use mathlib.Core.Bool.{Bool, true, false, _&&_, _||_}
 use mathlib.Core.List.{List, []}
 use mathlib.Core.Option.{Option, none, some}
 use lib.Dec.{eqb}
-use lib.ListN.{getD, replicate}
+use lib.ListN.{length, getD, replicate}
 use Rattle.plan.specs.Lists.{if_then_else_}
 use Rattle.plan.specs.Sheet.{Step}
 use Rattle.plan.specs.Graph.{Edge}
-use Rattle.plan.specs.Stored.{table}
+use Rattle.plan.specs.Stored.{table, Step-formed}
 use Rattle.plan.specs.Visit.{Loosened}
 use Rattle.plan.specs.Visit as Visit
 use Rattle.simplify_ordering.specs.declared.around.Around.{Around}
@@ -65,3 +66,16 @@ around-with into out-of u e =
 
 abbrev pub mark : Bool → Bool → ℕ → Bool → Bool → Bool → Bool → Bool
 mark u into k out-of in₀ in₁ out = u || (into && (if eqb k 0 then in₀ else in₁)) || (out-of && out)
+
+-- The steps -----------------------------------------------------------------------------------------------------------------------
+
+-- the bytes hold n steps
+pub record Steps-held (bytes : List ℕ) (n : ℕ) : Type 0 where
+  pub few : n ≤ 32
+  pub size : length bytes ≡ 1024
+  pub formed : (i : ℕ) → i < n → Step-formed bytes i
+
+-- a step with the kind and options that a rule gave it
+abbrev pub ruled-step : Step → Ruled → Step
+ruled-step s r =
+    record { kind = r .kind; a = r .a; b = r .b; c = r .c; inputs = s .inputs; exprs = s .exprs; aggs = s .aggs }
