@@ -1,2 +1,3 @@
 pub mod EdgeLaws
 pub mod StoreLaws
+pub mod UnlinkLaws

@@ -1,13 +1,13 @@
 -- How the code holds the edges of a run, and what its rules read and give: each tied to the definition's record.
 use mathlib.Core.Path.{_≡_}
-use Prim.Native.Nat.{ℕ, _≤_, _<_}
+use Prim.Native.Nat.{ℕ, _+_, _*_, _≤_, _<_}
 use mathlib.Core.Bool.{Bool, true, false, _&&_, _||_}
-use mathlib.Core.List.{List, []}
+use mathlib.Core.List.{List, [], map}
 use mathlib.Core.Option.{Option, none, some}
 use lib.Dec.{eqb}
-use lib.ListN.{length, getD, replicate}
+use lib.ListN.{length, getD, set, replicate}
 use Rattle.plan.specs.Lists.{if_then_else_}
-use Rattle.plan.specs.Sheet.{Step}
+use Rattle.plan.specs.Sheet.{Step, step-at}
 use Rattle.plan.specs.Graph.{Edge}
 use Rattle.plan.specs.Stored.{table, Step-formed}
 use Rattle.plan.specs.Visit.{Loosened}
@@ -79,3 +79,27 @@ pub record Steps-held (bytes : List ℕ) (n : ℕ) : Type 0 where
 abbrev pub ruled-step : Step → Ruled → Step
 ruled-step s r =
     record { kind = r .kind; a = r .a; b = r .b; c = r .c; inputs = s .inputs; exprs = s .exprs; aggs = s .aggs }
+
+-- Edges and steps together ----------------------------------------------------------------------------------------------------------
+
+-- every edge leads to a slot of a step
+pub record Edges-held (bytes : List ℕ) (n : ℕ) (consumer slot producer : List ℕ) (unordered : List Bool) (edges : ℕ) : Type 0 where
+  pub few : edges ≤ 256
+  pub producers : length producer ≡ 256
+  pub marks : length unordered ≡ 256
+  pub there : (k : ℕ) → k < edges → getD consumer k 0 < n
+  pub slots : (k : ℕ) → k < edges → getD slot k 0 < getD bytes (getD consumer k 0 * 32 + 4) 0
+
+-- step n has an input that is a step, and an unordered edge leaves it
+pub record Unlinkable (bytes : List ℕ) (steps n : ℕ) (ds : List Edge) : Type 0 where
+  pub step : n < steps
+  pub reads : 1 ≤ getD bytes (n * 32 + 4) 0
+  pub input : getD bytes (n * 32 + 7) 0 < 32
+  pub unordered : Visit.out-edge n ds .unordered ≡ true
+
+-- steps and edges after unlink_node, from those before
+pub record Unlinked (n : ℕ) (ps : List Step) (ds : List Edge) (ps′ : List Step) (ds′ : List Edge) : Type 0 where
+  pub steps :
+      let d = Visit.out-edge n ds in
+      ps′ ≡ set ps (d .consumer) (Visit.with-input (d .slot) (getD (step-at ps n .inputs) 0 0) (step-at ps (d .consumer)))
+  pub edges : ds′ ≡ map (Visit.relinked n (getD (step-at ps n .inputs) 0 0)) ds

@@ -6,7 +6,9 @@ ghost use lib.ListN.{length};
 ghost use Rattle.plan.specs.Lists.{if_then_else_};
 ghost use Rattle.plan.specs.Visit.{relinked};
 ghost use Rattle.claims.specs.Demand3.{leaving-among};
-ghost use Rattle.simplify_ordering.specs.Held.{held-edges};
+ghost use Rattle.plan.specs.Stored.{stored-steps};
+ghost use Rattle.simplify_ordering.specs.Held.{held-edges, Steps-held, Edges-held, Unlinkable, Unlinked};
+use crate::store::store_input;
 
 // Who produces an edge, once n is removed: none (255) of the edge into n, n's input of the edge out of it.
 fn producer_after(producer: u8, into: bool, out_of: bool, input: u8) -> u8
@@ -67,4 +69,30 @@ pub fn leaving_edge(
         }
     }
     r
+}
+
+// n's consumer takes n's input in its place. Its out-edge is there, since it is unordered.
+pub fn unlink_node(
+    steps: &mut [u8; 1024],
+    n_steps: usize,
+    consumer: &[u8; 256],
+    slot: &[u8; 256],
+    producer: &mut [u8; 256],
+    unordered: &mut [bool; 256],
+    edges: usize,
+    n: u8,
+)
+    requires { ⌜ Steps-held (now steps) «n_steps» ⌝ }
+    requires { ⌜ Edges-held (now steps) «n_steps» (now consumer) (now slot) (now producer) (now unordered) edges ⌝ }
+    requires { ⌜ Unlinkable (now steps) «n_steps» n (held-edges (now consumer) (now slot) (now producer) (now unordered) edges) ⌝ }
+    ensures { λ _. ⌜ Unlinked n (stored-steps (now (steps .entry)) «n_steps») (held-edges (now (consumer .entry)) (now (slot .entry)) (now (producer .entry)) (now (unordered .entry)) edges) (stored-steps (now (steps .exit)) «n_steps») (held-edges (now (consumer .entry)) (now (slot .entry)) (now (producer .exit)) (now (unordered .exit)) edges) ⌝ }
+    ensures { λ _. ⌜ Steps-held (now (steps .exit)) «n_steps» × ((length (now (producer .exit)) ≡ 256) × (length (now (unordered .exit)) ≡ 256)) ⌝ }
+{
+    let k = leaving_edge(consumer, slot, producer, unordered, edges, n);
+    let c = consumer[k] as usize;
+    let s = slot[k] as usize;
+    let b = (n as usize) * 32;
+    let input = steps[b + 7];
+    store_input(steps, n_steps, c, s, input);
+    relink_edges(consumer, slot, producer, unordered, edges, n, input);
 }
