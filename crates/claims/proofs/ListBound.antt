@@ -97,7 +97,14 @@ list-spent qs allow s g =
     let c = at-most-all again (x .last-ordered-node) qs (size (s .expr-arena)) m in
     record { goes = b .goes; outside = b .outside; looks = omega (arith, b .looks) }
 
+-- the bound that is reached: n × (n + 3) ÷ 2
+pub list-fewer : (qs : List ℕ) (s s′ : Eos) → Formed (s .expr-arena) → List-spent qs s s′
+    → let n = length (records (s .expr-arena) qs) in
+    2 * s′ .looks ≤ 2 * s .looks + n * (n + 3)
+list-fewer qs s s′ g a = rw (size-records (s .expr-arena) qs) (omega (arith, a .looks, Φ-pairs s g qs))
+
+-- the demanded one
 pub list-few : (qs : List ℕ) (s s′ : Eos) → Formed (s .expr-arena) → List-spent qs s s′
     → let n = length (records (s .expr-arena) qs) in
     2 * s′ .looks ≤ 2 * s .looks + n * (n + 5)
-list-few qs s s′ g a = rw (size-records (s .expr-arena) qs) (omega (arith, a .looks, Φ-pairs s g qs))
+list-few qs s s′ g a = let n = length (records (s .expr-arena) qs) in omega (arith, list-fewer qs s s′ g a)
