@@ -2,7 +2,7 @@
 ghost use mathlib.Core.Path.{_≡_};
 ghost use mathlib.Core.Bool.{false};
 ghost use Rattle.plan.specs.Lists.{if_then_else_};
-ghost use Rattle.plan.specs.Visit.{rule, loosen, unmaintained-if, first-or-last, select-in, select-out, sort-in, filter-in, filter-out, group-by-in, group-by-out, gather-idxs, gather-out, union-all, map-in, map-out, cache-in, cache-outs, sink-in};
+ghost use Rattle.plan.specs.Visit.{rule, loosen, unmaintained-if, first-or-last, select-in, select-out, sort-in, filter-in, filter-out, group-by-in, group-by-out, gather-idxs, gather-out, union-all, map-in, map-out, cache-in, cache-outs, sink-in, allow-deordering-top, join-fails, sink-fails};
 ghost use Rattle.simplify_ordering.specs.Held.{around-of, observable-of, step-of, ruled-of};
 use crate::around::Around;
 use crate::joins::join_rule;
@@ -240,4 +240,38 @@ pub fn rule_of(s: Options, e: Around, o: Observable) -> Ruled
         IR::SimpleProjection => kept(s, e.in0 | e.out, false, e.in0 | e.out),
         IR::Cache => cache_rule(s, e, o),
     }
+}
+
+// allow_deordering_top of the n2 list; of the n3 list it is false.
+pub fn allow_deordering_top(s: Options, e: Around) -> bool
+    ensures { λ r. ⌜ r ≡ allow-deordering-top (step-of s) (around-of e) ⌝ }
+{
+    let kind = s.kind;
+    let k = kind.number();
+    if k == 3 {
+        return e.out;
+    }
+    if k == 4 {
+        return e.out & (e.in0 | (s.a == s.n2));
+    }
+    if k == 7 {
+        return e.in0 & !(s.a == 1);
+    }
+    false
+}
+
+// Join keys and the keys of a partitioned Sink should be elementwise: 10 or 11 where they are not, 0 where they are.
+pub fn refusal_of(s: Options, o: Observable) -> u8
+    ensures { λ r. ⌜ r ≡ (if join-fails (step-of s) (observable-of o) then 10 else if sink-fails (step-of s) (observable-of o) then 11 else 0) ⌝ }
+{
+    let kind = s.kind;
+    let k = kind.number();
+    let elementwise = !(o.exprs.independent | o.aggs.independent) & !o.internal.column;
+    if (k == 9) & !elementwise {
+        return 10;
+    }
+    if (k == 2) & (s.b == 1) & !elementwise {
+        return 11;
+    }
+    0
 }
