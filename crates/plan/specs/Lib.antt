@@ -15,6 +15,7 @@ pub mod Text
 pub mod Decimals
 pub mod StoredLaws
 pub mod StoredChanges
+pub mod StoredAppend
 pub mod Finished
 pub mod Computing
 pub mod Cases

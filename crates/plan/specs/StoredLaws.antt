@@ -32,6 +32,23 @@ module _ {A : Type 0} (f : ℕ → A) where
   pub table-at : (n i : ℕ) (d : A) → i < n → getD (table f 0 n) i d ≡ f i
   table-at n i d h = from 0 n i d h ∙ ap f (omega arith)
 
+  -- one entry more
+  pub table-more : (k n : ℕ) → table f k (suc n) ≡ table f k n ++ (f (k + n) ∷ [])
+  unfolding table
+  table-more k zero = ap (λ (i : ℕ). f i ∷ []) (omega arith)
+  table-more k (suc n) =
+      ap (λ (l : List A). f k ∷ l) (table-more (suc k) n ∙ ap (λ (i : ℕ). table f (suc k) n ++ (f i ∷ [])) (omega arith))
+
+-- Tables that agree
+same-from : {A : Type 0} (f g : ℕ → A) (k n : ℕ) → ((j : ℕ) → k ≤ j → j < k + n → f j ≡ g j) → table f k n ≡ table g k n
+unfolding table
+same-from f g k zero h = refl
+same-from {A} f g k (suc n) h =
+    ap₂ (λ (x : A) (l : List A). x ∷ l) (h k (omega arith) (omega arith)) (same-from f g (suc k) n (λ j a b. h j (omega arith) (omega arith)))
+
+pub same-table : {A : Type 0} (f g : ℕ → A) (n : ℕ) → ((j : ℕ) → j < n → f j ≡ g j) → table f 0 n ≡ table g 0 n
+same-table f g n h = same-from f g 0 n (λ j a b. h j (omega arith))
+
 -- An E line ----------------------------------------------------------------------------------------------------------------------
 
 digit-yes : (n : ℕ) → n ≤ 1 → digit (yes? n) ≡ n

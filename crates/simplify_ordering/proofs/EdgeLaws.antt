@@ -16,7 +16,7 @@ use lib.Seq.{drop-cons, drop-length, getD-set-same, getD-set-other}
 use Rattle.plan.specs.Lists.{if_then_else_, all?, select}
 use Rattle.plan.specs.Graph.{Edge}
 use Rattle.plan.specs.Stored.{table}
-use Rattle.plan.specs.StoredLaws.{length-table, table-at}
+use Rattle.plan.specs.StoredLaws.{length-table, table-at, same-table}
 use Rattle.plan.specs.Visit.{Around, around, is-into, is-out-of, no-edge, out-edge, ins-unordered, outs-unordered, loosen, loosened, relinked}
 use Rattle.claims.specs.Demand3.{leaving-among}
 use Rattle.simplify_ordering.specs.Held.{producer-of, held-edge, held-edges, around-with, mark}
@@ -91,15 +91,6 @@ module _ (consumer slot producer : List ℕ) (unordered : List Bool) (edges n : 
 -- Tables by their entries ----------------------------------------------------------------------------------------------------------
 
 module _ {A : Type 0} where
-  same-from : (f g : ℕ → A) (k n : ℕ) → ((j : ℕ) → k ≤ j → j < k + n → f j ≡ g j) → table f k n ≡ table g k n
-  unfolding table
-  same-from f g k zero h = refl
-  same-from f g k (suc n) h =
-      ap₂ (λ (x : A) (l : List A). x ∷ l) (h k (omega arith) (omega arith)) (same-from f g (suc k) n (λ j a b. h j (omega arith) (omega arith)))
-
-  pub same-table : (f g : ℕ → A) (n : ℕ) → ((j : ℕ) → j < n → f j ≡ g j) → table f 0 n ≡ table g 0 n
-  same-table f g n h = same-from f g 0 n (λ j a b. h j (omega arith))
-
   pub map-table : {B : Type 0} (h : A → B) (f : ℕ → A) (k n : ℕ) → map h (table f k n) ≡ table (λ j. h (f j)) k n
   unfolding table
   map-table h f k zero = refl

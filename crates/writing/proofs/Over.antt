@@ -8,6 +8,7 @@ use lib.ListN.{length, getD, take, drop, length-append, length-drop}
 use lib.Seq.{take-all, take-append-seam, drop-append-seam, drop-drop, drop-length, take-suc}
 use Rattle.plan.specs.Lists.{concat-map}
 use Rattle.plan.specs.Stored.{table}
+use Rattle.plan.specs.StoredLaws.{table-more}
 use Rattle.writing.specs.Wrote.{Wrote}
 
 part-from : (s : List ℕ) (a : ℕ) → take (length s - a) (drop a s) ≡ drop a s
@@ -95,16 +96,10 @@ module _ {A : Type 0} (f : A → List ℕ) where
 -- The texts of a table's entries: the invariant of a loop is Wrote (concat-map f (table g 0 i)) entry out len ----------------------
 
 module _ {A : Type 0} (f : A → List ℕ) (g : ℕ → A) where
-  table-more : (k n : ℕ) → table g k (suc n) ≡ table g k n ++ (g (k + n) ∷ [])
-  unfolding table
-  table-more k zero = ap (λ (i : ℕ). g i ∷ []) (omega arith)
-  table-more k (suc n) =
-      ap (λ (l : List A). g k ∷ l) (table-more (suc k) n ∙ ap (λ (i : ℕ). table g (suc k) n ++ (g i ∷ [])) (omega arith))
-
   entry-more : (i : ℕ) → concat-map f (table g 0 i) ++ f (g i) ≡ concat-map f (table g 0 (i + 1))
   entry-more i =
       sym
-      (rw (add-one, table-more 0 i, concat-append, concat-one)
+      (rw (add-one, table-more g 0 i, concat-append, concat-one)
       (ap (λ (j : ℕ). concat-map f (table g 0 i) ++ f (g j)) (omega arith)))
 
   pub no-entry : (o : List ℕ) → Wrote (concat-map f (table g 0 0)) o o 0
