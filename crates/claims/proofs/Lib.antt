@@ -43,3 +43,4 @@ pub mod Printable
 pub mod PrintableStart
 pub mod WithinLimits
 pub mod Demand3
+pub mod Demand1

@@ -10,35 +10,15 @@ use lib.Dec.{T, leb, eqb→eq, leb→le}
 use lib.ListN.{length, getD, List·getD-eq-default}
 use Rattle.plan.specs.declared.ir.IR.{IR}
 use Rattle.plan.specs.Kinds.{ir, ir-number, same-ir}
+use Rattle.plan.specs.KindNumbers.{ir-back}
 use Rattle.plan.specs.Lists.{all?}
 use Rattle.plan.specs.Sheet.{Step, no-step, step-at, step-table, in-step-table}
 use Rattle.claims.proofs.Booleans.{and-left, and-right, all-at}
 
 -- Kinds and their numbers -----------------------------------------------------------------------------------------------------
 
-pub ir-of : (k : IR) → ir (ir-number k) ≡ k
-ir-of IR.Scan = refl
-ir-of IR.UnoptimizedDispatch = refl
-ir-of IR.Sink = refl
-ir-of IR.Select = refl
-ir-of IR.HStack = refl
-ir-of IR.Sort = refl
-ir-of IR.Filter = refl
-ir-of IR.GroupBy = refl
-ir-of IR.Distinct = refl
-ir-of IR.Join = refl
-ir-of IR.Gather = refl
-ir-of IR.Union = refl
-ir-of IR.MergeSorted = refl
-ir-of IR.MapFunction = refl
-ir-of IR.HConcat = refl
-ir-of IR.Slice = refl
-ir-of IR.ExtContext = refl
-ir-of IR.SimpleProjection = refl
-ir-of IR.Cache = refl
-
 pub same-kind : (k j : IR) → T (same-ir k j) → k ≡ j
-same-kind k j t = sym (ir-of k) ∙ ap ir (eqb→eq (ir-number k) (ir-number j) t) ∙ ir-of j
+same-kind k j t = sym (ir-back k) ∙ ap ir (eqb→eq (ir-number k) (ir-number j) t) ∙ ir-back j
 
 -- a step of a kind other than Scan is there
 pub in-range : (ps : List Step) (n : ℕ) {k : ℕ} → ir-number (step-at ps n .kind) ≡ suc k → n < length ps
@@ -97,9 +77,18 @@ few-inputs s t =
         by (yes h) = all-at (λ (x : Row). leb (x .4) 8) step-table no-row tt k h
         by (no h) = rw (List·getD-eq-default step-table no-row {n = k} (omega arith)) tt
 
-pub sort-has-one-input : (s : Step) → s .kind ≡ IR.Sort → T (in-step-table s) → length (s .inputs) ≡ 1
-unfolding step-table
-sort-has-one-input s e t =
+-- a kind whose row has one input
+one-input : (k : IR) → getD step-table (ir-number k) no-row .3 ≡ 1 → getD step-table (ir-number k) no-row .4 ≡ 1
+    → (s : Step) → s .kind ≡ k → T (in-step-table s) → length (s .inputs) ≡ 1
+one-input k l m s e t =
     let (least, most) = inputs-fit s t in
     let row = ap (λ (k : IR). getD step-table (ir-number k) no-row) e in
-    omega (arith, ap (λ (x : Row). x .3) row, ap (λ (x : Row). x .4) row)
+    omega (arith, l, m, ap (λ (x : Row). x .3) row, ap (λ (x : Row). x .4) row)
+
+pub sort-has-one-input : (s : Step) → s .kind ≡ IR.Sort → T (in-step-table s) → length (s .inputs) ≡ 1
+unfolding step-table
+sort-has-one-input = one-input IR.Sort refl refl
+
+pub sink-has-one-input : (s : Step) → s .kind ≡ IR.Sink → T (in-step-table s) → length (s .inputs) ≡ 1
+unfolding step-table
+sink-has-one-input = one-input IR.Sink refl refl

@@ -2,3 +2,4 @@ pub mod WellFormed
 pub mod LooksMade
 pub mod Demand3
 pub mod Limits
+pub mod Demand1
