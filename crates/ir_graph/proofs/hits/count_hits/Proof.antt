@@ -1,0 +1,123 @@
+use mathlib.Core.Path.{_≡_}
+use denote.Ref.{now}
+use Prim.Native.Nat.{ℕ, suc, _-_, _≤_}
+use native.Mathlib.Omega.{arith}
+use borrow.Author.Needs.{needs}
+use lib.ListN.{getD, replicate, length-replicate}
+use Rattle.plan.specs.Graph.{most-places}
+use Rattle.plan.specs.Stored.{stored-steps}
+use Rattle.ir_graph.proofs.FirstPass.{Popping, begins, ended, top-there, hit-fits, room-new, turns-left, popping-next}
+use Rattle.ir_graph.proofs.hits.count_hits.Statement.{statement}
+use Rattle.ir_graph.proofs.hits.count_hits.Tie as tie
+use Rattle.ir_graph.proofs.hits.count_hits.Reads as reads
+use Rattle.ir_graph.proofs.hits.count_hits.Lts as lts
+use Rattle.ir_graph.proofs.hits.meet.Reads as meet-reads
+use Rattle.ir_graph.proofs.roots.push_roots.Reads as push-roots-reads
+use Rattle.ir_graph.proofs.sizes.size_32.Reads as size-32-reads
+
+abbrev Inv-loop : tie.InvT-loop
+Inv-loop steps n hits₀ stack₀ len₀ turns₀ hits stack len turns = Popping (stored-steps steps n) stack hits len turns
+
+abbrev μ-loop : tie.MeasureT-loop
+μ-loop steps n hits₀ stack₀ len₀ turns₀ hits stack len turns = most-places (stored-steps steps n) - turns
+
+-- src/hits.rt:46:5
+size-32-requires : tie.Need-size-32-requires Inv-loop μ-loop
+size-32-requires c κs = search needs
+
+-- src/hits.rt:48:9
+push-roots-requires : tie.Need-push-roots-requires Inv-loop μ-loop
+push-roots-requires c κs = search needs
+
+-- src/hits.rt:50:5
+loop-holds : tie.Need-loop-holds Inv-loop μ-loop
+loop-holds c =
+    let s = c .before .before .before .before in
+    begins (now (s .args .steps)) (s .args .n) (s .pre .0) (s .pre .1 .0) (s .pre .1 .1 .0)
+    _ (replicate 288 0) (now (s .args .hits)) _ (length-replicate {A = ℕ} 288 0) (c .before .before .size-32 .ensures) (s .pre .1 .1 .1) (c .push-roots .ensures)
+
+-- src/hits.rt:51:15
+sub-len : tie.Need-sub-len Inv-loop μ-loop
+sub-len c = search needs
+
+-- src/hits.rt:52:17
+array-read-i : tie.Need-array-read-i Inv-loop μ-loop
+array-read-i c = search needs
+
+-- src/hits.rt:52:17
+cast-i : tie.Need-cast-i Inv-loop μ-loop
+cast-i c =
+    let s = c .before .before .before .before .before .before in
+    let l = c .before .loop in
+    let e : l .len ≡ suc (l .len - 1) = omega arith in
+    omega (arith, top-there (now (s .args .steps)) (s .args .n) (s .pre .0) (s .pre .1 .0) (s .pre .1 .1 .0) (l .stack) (l .hits) (l .len) (l .turns) (l .len - 1) (l .inv) e, s .pre .0)
+
+-- src/hits.rt:53:9
+meet-requires : tie.Need-meet-requires Inv-loop μ-loop
+meet-requires c κs =
+    let s = c .before .before .before .before .before .before .before .before in
+    let l = c .before .before .before .loop in
+    let e : l .len ≡ suc (l .len - 1) = omega arith in
+    let steps = now (s .args .steps) in
+    let there = top-there steps (s .args .n) (s .pre .0) (s .pre .1 .0) (s .pre .1 .1 .0) (l .stack) (l .hits) (l .len) (l .turns) (l .len - 1) (l .inv) e in (
+      omega arith,
+      (
+        s .pre .1 .1 .0 (getD (l .stack) (l .len - 1) 0) there,
+        (
+          hit-fits steps (s .args .n) (s .pre .0) (s .pre .1 .0) (s .pre .1 .1 .0) (l .stack) (l .hits) (l .len) (l .turns) (l .len - 1) (l .inv) e,
+          room-new steps (s .args .n) (s .pre .0) (s .pre .1 .0) (s .pre .1 .1 .0) (l .stack) (l .hits) (l .len) (l .turns) (l .len - 1) (l .inv) e,
+        ),
+      ),
+    )
+
+-- src/hits.rt:54:17
+add-turns : tie.Need-add-turns Inv-loop μ-loop
+add-turns c =
+    let s = c .before .before .before .before .before .before .before .before .before in
+    let l = c .before .before .before .before .loop in
+    let e : l .len ≡ suc (l .len - 1) = omega arith in
+    let left = turns-left (now (s .args .steps)) (s .args .n) (s .pre .0) (s .pre .1 .0) (s .pre .1 .1 .0) (l .stack) (l .hits) (l .len) (l .turns) (l .len - 1) (l .inv) e in
+    omega (arith, left .1)
+
+-- src/hits.rt:50:5
+loop-less : tie.Need-loop-less Inv-loop μ-loop
+loop-less c =
+    let s = c .before .before .before .before .before .before .before .before .before in
+    let l = c .before .before .before .before .loop in
+    let e : l .len ≡ suc (l .len - 1) = omega arith in
+    let left = turns-left (now (s .args .steps)) (s .args .n) (s .pre .0) (s .pre .1 .0) (s .pre .1 .1 .0) (l .stack) (l .hits) (l .len) (l .turns) (l .len - 1) (l .inv) e in
+    omega (arith, left .0)
+
+-- src/hits.rt:50:5
+loop-again : tie.Need-loop-again Inv-loop μ-loop
+loop-again c =
+    let s = c .before .before .before .before .before .before .before .before .before in
+    let l = c .before .before .before .before .loop in
+    let e : l .len ≡ suc (l .len - 1) = omega arith in
+    popping-next (now (s .args .steps)) (s .args .n) (s .pre .0) (s .pre .1 .0) (s .pre .1 .1 .0) (l .stack) (l .hits) (l .len) (l .turns) (l .len - 1) (l .inv) e
+    _ _ _ (c .meet .ensures .0) (c .meet .ensures .1)
+
+-- src/hits.rt:38:1
+returns : tie.Need-returns Inv-loop μ-loop
+returns c =
+    let s = c .before .before .before .before .before .before in
+    let l = c .before .loop in
+    ended (now (s .args .steps)) (s .args .n) (s .pre .0) (s .pre .1 .0) (s .pre .1 .1 .0) (l .stack) (l .hits) (l .len) (l .turns) (l .inv) (omega arith)
+
+pub count-hits-spec : {M : Type 1} → statement M
+count-hits-spec =
+    tie.close
+    (tie.spec
+    Inv-loop
+    μ-loop
+    size-32-requires
+    push-roots-requires
+    loop-holds
+    sub-len
+    array-read-i
+    cast-i
+    meet-requires
+    add-turns
+    loop-less
+    loop-again
+    returns)
