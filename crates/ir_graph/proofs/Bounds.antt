@@ -8,11 +8,14 @@ use lib.ListN.{length, getD, length-append, length-take, length-drop}
 use Rattle.plan.specs.Lists.{concat-map}
 use Rattle.plan.specs.Sheet.{Step, no-step, step-at, step-of}
 use Rattle.plan.specs.Faults.{named}
-use Rattle.plan.specs.Graph.{sinks, most-places}
+use Rattle.plan.specs.declared.ir.IR.{IR}
+use Rattle.plan.specs.Kinds.{same-ir}
+use Rattle.plan.specs.Graph.{sinks, is-cache, most-places}
 use Rattle.plan.specs.Stored.{table, stored-step, stored-steps, Step-formed}
 use Rattle.plan.specs.StoredLaws.{length-table, table-at}
 use Rattle.claims.proofs.Plans.{Plan}
 use Rattle.claims.proofs.Sizes.{few-sinks}
+use Rattle.ir_graph.specs.Turns.{cached}
 use Rattle.ir_graph.proofs.Inputs.{inputs-of, few-inputs}
 
 named-from : (ps : List Step) → ((i : ℕ) → i < length ps → length (step-at ps i .inputs) ≤ 8) → length (named ps) ≤ 8 * length ps
@@ -40,6 +43,9 @@ module _ (bytes : List ℕ) (n : ℕ) where
   pub step-there : (i : ℕ) → i < n → step-at (stored-steps bytes n) i ≡ stored-step bytes i
   unfolding stored-steps
   step-there i h = table-at (stored-step bytes) n i no-step h
+
+  pub cache-there : (i : ℕ) → i < n → is-cache (stored-steps bytes n) i ≡ cached bytes i
+  cache-there i h = ap (λ (s : Step). same-ir (s .kind) IR.Cache) (step-there i h)
 
   module _ (small : n ≤ 32) (plan : Plan (stored-steps bytes n)) (formed : (i : ℕ) → i < n → Step-formed bytes i) where
     pub namings : length (named (stored-steps bytes n)) ≤ 248

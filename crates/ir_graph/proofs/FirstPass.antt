@@ -8,7 +8,7 @@ use native.Mathlib.Numerals.{add-one}
 use mathlib.Core.Bool.{Bool, true, false, _&&_}
 use mathlib.Core.List.{List, [], _∷_, _++_, reverse, reverse-append, reverse-cons, List·Memᴰ, List·Memᴰ·head, List·Memᴰ·not-nil, List·Memᴰ·append-cases, Memᴰ·append-left, Memᴰ·append-right}
 use lib.Dec.{T, eqb, ltb, ltb→lt, lt→ltb}
-use lib.ListN.{length, getD, take, set, length-append, length-reverse, length-take, length-set}
+use lib.ListN.{length, getD, take, set, replicate, length-append, length-reverse, length-take, length-set}
 use lib.Seq.{take-suc, getD-set-same, getD-set-other}
 use Rattle.plan.specs.declared.ir.IR.{IR}
 use Rattle.plan.specs.Kinds.{same-ir, ir-number}
@@ -25,7 +25,7 @@ use Rattle.claims.proofs.Hits.{Counted, counted-next, among-times, times-among}
 use Rattle.ir_graph.specs.Pushed.{Pushed}
 use Rattle.ir_graph.specs.Turns.{cached, pushed-by, hit}
 use Rattle.ir_graph.specs.Hits.{Hits-counted}
-use Rattle.ir_graph.proofs.Bounds.{length-steps, step-there, namings, roots}
+use Rattle.ir_graph.proofs.Bounds.{length-steps, step-there, cache-there, namings, roots}
 
 -- `met` was popped, the first `len` bytes of `stack` wait, and what is left of the pass comes to the whole of it
 pub record Popping (ps : List Step) (stack counts : List ℕ) (len turns : ℕ) : Type 0 where
@@ -40,6 +40,11 @@ pub record Popping (ps : List Step) (stack counts : List ℕ) (len turns : ℕ) 
   pub room : length stack ≡ 288
   pub fits : len ≤ 288
   pub size : length counts ≡ 32
+
+pub zeros : (n i : ℕ) → _≡_ {A = ℕ} (getD (replicate n 0) i 0) 0
+zeros zero i = refl
+zeros (suc n) zero = refl
+zeros (suc n) (suc i) = zeros n i
 
 -- the last of a list, popped
 pub last-first : (l : List ℕ) (k len : ℕ) → len ≡ suc k → len ≤ length l → reverse (take len l) ≡ getD l k 0 ∷ reverse (take k l)
@@ -56,9 +61,6 @@ times-few n l = omega (arith, sum-le (only n) (λ _. 1) l (λ m _. by (eqb n m))
 module _ (bytes : List ℕ) (n : ℕ) (small : n ≤ 32) (plan : Plan (stored-steps bytes n)) (formed : (i : ℕ) → i < n → Step-formed bytes i) where
   abbrev ps : List Step
   ps = stored-steps bytes n
-
-  cache-there : (i : ℕ) → i < n → is-cache ps i ≡ cached bytes i
-  cache-there i h = ap (λ (s : Step). same-ir (s .kind) IR.Cache) (step-there bytes n i h)
 
   -- what was popped and what waits has room
   few : (met stack : List ℕ) → Counted ps met stack → length met + length stack ≤ most-places ps
@@ -120,7 +122,7 @@ module _ (bytes : List ℕ) (n : ℕ) (small : n ≤ 32) (plan : Plan (stored-st
     unfolding pushes pushed-by
     pushes-new =
         ap (λ (s : Step). if same-ir (s .kind) IR.Cache && among top (p .met) then [] else s .inputs) (step-there bytes n top top-there)
-        ∙ by (cached bytes top) (λ t. p .caches top (subst T (sym (cache-there top top-there)) t))
+        ∙ by (cached bytes top) (λ t. p .caches top (subst T (sym (cache-there bytes n top top-there)) t))
       where
         by : (b : Bool) → (T b → getD counts top 0 ≡ times top (p .met))
             → (if b && among top (p .met) then [] else stored-step bytes top .inputs) ≡ (if b && ltb 0 (getD counts top 0) then [] else stored-step bytes top .inputs)
@@ -147,7 +149,7 @@ module _ (bytes : List ℕ) (n : ℕ) (small : n ≤ 32) (plan : Plan (stored-st
 
     pub hit-fits : T (cached bytes top) → getD counts top 0 < 255
     hit-fits t =
-        let c = subst T (sym (cache-there top top-there)) t in
+        let c = subst T (sym (cache-there bytes n top top-there)) t in
         omega (
           arith,
           p .caches top c,
@@ -180,7 +182,7 @@ module _ (bytes : List ℕ) (n : ℕ) (small : n ≤ 32) (plan : Plan (stored-st
 
         by : Dec (m ≡ top) → getD (hit bytes counts top) m 0 ≡ times m (p .met ++ (top ∷ []))
         by (yes i) =
-            let b = subst T (cache-there top top-there) (subst (λ x. T (is-cache ps x)) i t) in
+            let b = subst T (cache-there bytes n top top-there) (subst (λ x. T (is-cache ps x)) i t) in
             let one : times m (top ∷ []) ≡ 1 = subst (λ x. times m (x ∷ []) ≡ 1) i (times-same m []) in
             same (cached bytes top) b i ∙ omega (arith, p .caches m t, more, one)
         by (no h) =

@@ -1,5 +1,10 @@
 pub mod Inputs
 pub mod Pushing
 pub mod Turning
+pub mod Linking
 pub mod Bounds
 pub mod FirstPass
+pub mod SecondPass
+pub mod Rows
+pub mod Graphs
+pub mod Outs

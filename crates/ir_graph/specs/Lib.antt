@@ -1,3 +1,6 @@
 pub mod Pushed
 pub mod Turns
 pub mod Hits
+pub mod Edges
+pub mod Built
+pub mod Outs

@@ -10,10 +10,6 @@ use Rattle.ir_graph.proofs.FirstPass.{Popping, begins, ended, top-there
 use Rattle.ir_graph.proofs.hits.count_hits.Statement.{statement}
 use Rattle.ir_graph.proofs.hits.count_hits.Tie as tie
 use Rattle.ir_graph.proofs.hits.count_hits.Reads as reads
-use Rattle.ir_graph.proofs.hits.count_hits.Lts as lts
-use Rattle.ir_graph.proofs.hits.meet.Reads as meet-reads
-use Rattle.ir_graph.proofs.roots.push_roots.Reads as push-roots-reads
-use Rattle.ir_graph.proofs.sizes.size_32.Reads as size-32-reads
 
 abbrev Inv-loop : tie.InvT-loop
 Inv-loop steps n hits₀ stack₀ len₀ turns₀ hits stack len turns = Popping (stored-steps steps n) stack hits len turns
@@ -21,30 +17,24 @@ Inv-loop steps n hits₀ stack₀ len₀ turns₀ hits stack len turns = Popping
 abbrev μ-loop : tie.MeasureT-loop
 μ-loop steps n hits₀ stack₀ len₀ turns₀ hits stack len turns = most-places (stored-steps steps n) - turns
 
--- src/hits.rt:46:5
 size-32-requires : tie.Need-size-32-requires Inv-loop μ-loop
 size-32-requires c κs = search needs
 
--- src/hits.rt:48:9
 push-roots-requires : tie.Need-push-roots-requires Inv-loop μ-loop
 push-roots-requires c κs = search needs
 
--- src/hits.rt:50:5
 loop-holds : tie.Need-loop-holds Inv-loop μ-loop
 loop-holds c =
     let s = c .before .before .before .before in
     begins (now (s .args .steps)) (s .args .n) (s .pre .0) (s .pre .1 .0) (s .pre .1 .1 .0)
     _ (replicate 288 0) (now (s .args .hits)) _ (length-replicate {A = ℕ} 288 0) (c .before .before .size-32 .ensures) (s .pre .1 .1 .1) (c .push-roots .ensures)
 
--- src/hits.rt:51:15
 sub-len : tie.Need-sub-len Inv-loop μ-loop
 sub-len c = search needs
 
--- src/hits.rt:52:17
 array-read-i : tie.Need-array-read-i Inv-loop μ-loop
 array-read-i c = search needs
 
--- src/hits.rt:52:17
 cast-i : tie.Need-cast-i Inv-loop μ-loop
 cast-i c =
     let s = c .before .before .before .before .before .before in
@@ -52,7 +42,6 @@ cast-i c =
     let e : l .len ≡ suc (l .len - 1) = omega arith in
     omega (arith, top-there (now (s .args .steps)) (s .args .n) (s .pre .0) (s .pre .1 .0) (s .pre .1 .1 .0) (l .stack) (l .hits) (l .len) (l .turns) (l .len - 1) (l .inv) e, s .pre .0)
 
--- src/hits.rt:53:9
 meet-requires : tie.Need-meet-requires Inv-loop μ-loop
 meet-requires c κs =
     let s = c .before .before .before .before .before .before .before .before in
@@ -70,7 +59,6 @@ meet-requires c κs =
       ),
     )
 
--- src/hits.rt:54:17
 add-turns : tie.Need-add-turns Inv-loop μ-loop
 add-turns c =
     let s = c .before .before .before .before .before .before .before .before .before in
@@ -79,7 +67,6 @@ add-turns c =
     let left = turns-left (now (s .args .steps)) (s .args .n) (s .pre .0) (s .pre .1 .0) (s .pre .1 .1 .0) (l .stack) (l .hits) (l .len) (l .turns) (l .len - 1) (l .inv) e in
     omega (arith, left .1)
 
--- src/hits.rt:50:5
 loop-less : tie.Need-loop-less Inv-loop μ-loop
 loop-less c =
     let s = c .before .before .before .before .before .before .before .before .before in
@@ -88,7 +75,6 @@ loop-less c =
     let left = turns-left (now (s .args .steps)) (s .args .n) (s .pre .0) (s .pre .1 .0) (s .pre .1 .1 .0) (l .stack) (l .hits) (l .len) (l .turns) (l .len - 1) (l .inv) e in
     omega (arith, left .0)
 
--- src/hits.rt:50:5
 loop-again : tie.Need-loop-again Inv-loop μ-loop
 loop-again c =
     let s = c .before .before .before .before .before .before .before .before .before in
@@ -97,7 +83,6 @@ loop-again c =
     popping-next (now (s .args .steps)) (s .args .n) (s .pre .0) (s .pre .1 .0) (s .pre .1 .1 .0) (l .stack) (l .hits) (l .len) (l .turns) (l .len - 1) (l .inv) e
     _ _ _ (c .meet .ensures .0) (c .meet .ensures .1)
 
--- src/hits.rt:38:1
 returns : tie.Need-returns Inv-loop μ-loop
 returns c =
     let s = c .before .before .before .before .before .before in

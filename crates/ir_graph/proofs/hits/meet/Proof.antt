@@ -10,22 +10,16 @@ use borrow.Author.Needs.{needs}
 use Rattle.ir_graph.proofs.hits.meet.Statement.{statement}
 use Rattle.ir_graph.proofs.hits.meet.Tie as tie
 use Rattle.ir_graph.proofs.hits.meet.Reads as reads
-use Rattle.ir_graph.proofs.hits.meet.Lts as lts
-use Rattle.ir_graph.proofs.stored.copy_inputs.Reads as copy-inputs-reads
-use Rattle.ir_graph.proofs.stored.is_cache.Reads as is-cache-reads
 
--- src/hits.rt:24:9
 is-cache-requires : tie.Need-is-cache-requires
 is-cache-requires c κs = search needs
 
--- src/hits.rt:25:9
 copy-inputs-requires : tie.Need-copy-inputs-requires
 copy-inputs-requires c κs =
     let s = c .before .before .before in
     let e = sym (c .before .before .is-cache .ensures) ∙ not-true (c .before .before .is-cache .result) (c .before .if1 .taken) in
     (s .pre .0, (s .pre .1 .0, rw (other-pushes (now (s .args .steps)) (s .args .i) (now (s .args .hits)) e) at (s .pre .1 .1 .1)))
 
--- src/hits.rt:25:9
 returns : tie.Need-returns
 returns c =
     let s = c .before .before .before .before in
@@ -34,22 +28,18 @@ returns c =
       sym (other-hit (now (s .args .steps)) (s .args .i) (now (s .args .hits)) e),
     )
 
--- src/hits.rt:27:18
 element-copy-out-before : tie.Need-element-copy-out-before
 element-copy-out-before c = search needs
 
--- src/hits.rt:28:15
 add-hits : tie.Need-add-hits
 add-hits c =
     let s = c .before .before .before in
     let e = sym (c .before .before .is-cache .ensures) ∙ not-false (c .before .before .is-cache .result) (c .before .if1 .left) in
     omega (arith, s .pre .1 .1 .0 (T-of (cached (now (s .args .steps)) (s .args .i)) e))
 
--- src/hits.rt:28:5
 element-write-hits : tie.Need-element-write-hits
 element-write-hits c = search needs
 
--- src/hits.rt:30:9
 returns-2 : tie.Need-returns-2
 returns-2 c =
     let s = c .before .before .before .before in
@@ -58,14 +48,12 @@ returns-2 c =
       sym (cache-hit (now (s .args .steps)) (s .args .i) (now (s .args .hits)) e),
     )
 
--- src/hits.rt:32:5
 copy-inputs-requires-2 : tie.Need-copy-inputs-requires-2
 copy-inputs-requires-2 c κs =
     let s = c .before .before .before .before .before in
     let e = sym (c .before .before .before .before .is-cache .ensures) ∙ not-false (c .before .before .before .before .is-cache .result) (c .before .before .before .if1 .left) in
     (s .pre .0, (s .pre .1 .0, rw (first-pushes (now (s .args .steps)) (s .args .i) (now (s .args .hits)) e (c .before .if2 .left)) at (s .pre .1 .1 .1)))
 
--- src/hits.rt:16:1
 returns-3 : tie.Need-returns-3
 returns-3 c =
     let s = c .before .before .before .before .before .before in

@@ -10,8 +10,6 @@ use Rattle.ir_graph.proofs.Pushing.{no-roots, next-root, few-roots}
 use Rattle.ir_graph.proofs.roots.push_roots.Statement.{statement}
 use Rattle.ir_graph.proofs.roots.push_roots.Tie as tie
 use Rattle.ir_graph.proofs.roots.push_roots.Reads as reads
-use Rattle.ir_graph.proofs.roots.push_roots.Lts as lts
-use Rattle.ir_graph.proofs.roots.push_root.Reads as push-root-reads
 
 abbrev Inv-loop : tie.InvT-loop
 Inv-loop steps n list₀ len₀ i₀ list len i = (i ≤ n) × (len ≤ i) × Pushed (sinks (stored-steps steps i)) list₀ 0 list len
@@ -19,30 +17,24 @@ Inv-loop steps n list₀ len₀ i₀ list len i = (i ≤ n) × (len ≤ i) × Pu
 abbrev μ-loop : tie.MeasureT-loop
 μ-loop steps n list₀ len₀ i₀ list len i = n - i
 
--- src/roots.rt:29:5
 loop-holds : tie.Need-loop-holds Inv-loop μ-loop
 loop-holds c = (omega arith, omega arith, no-roots (now (c .args .steps)) (now (c .args .list)))
 
--- src/roots.rt:30:9
 push-root-requires : tie.Need-push-root-requires Inv-loop μ-loop
 push-root-requires c κs = search needs
 
--- src/roots.rt:31:13
 add-i : tie.Need-add-i Inv-loop μ-loop
 add-i c = search needs
 
--- src/roots.rt:29:5
 loop-less : tie.Need-loop-less Inv-loop μ-loop
 loop-less c = search needs
 
--- src/roots.rt:29:5
 loop-again : tie.Need-loop-again Inv-loop μ-loop
 loop-again c =
     let steps = now (c .before .before .before .before .args .steps) in
     let l = c .before .before .before .loop in
     (omega arith, omega (arith, c .push-root .ensures .len, few-roots steps (l .i)), next-root steps (l .i) (l .inv .2) (c .push-root .ensures))
 
--- src/roots.rt:23:1
 returns : tie.Need-returns Inv-loop μ-loop
 returns c =
     let steps = now (c .before .before .args .steps) in

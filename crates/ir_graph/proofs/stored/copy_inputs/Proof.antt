@@ -9,9 +9,6 @@ use Rattle.ir_graph.proofs.Inputs.{inputs-of, input-count, push-none, p
 use Rattle.ir_graph.proofs.stored.copy_inputs.Statement.{statement}
 use Rattle.ir_graph.proofs.stored.copy_inputs.Tie as tie
 use Rattle.ir_graph.proofs.stored.copy_inputs.Reads as reads
-use Rattle.ir_graph.proofs.stored.copy_inputs.Lts as lts
-use Rattle.ir_graph.proofs.sizes.size_1024.Reads as size-1024-reads
-use Rattle.ir_graph.proofs.sizes.size_288.Reads as size-288-reads
 
 abbrev Inv-loop : tie.InvT-loop
 Inv-loop steps i list₀ len b n1 k₀ list k =
@@ -21,31 +18,24 @@ Inv-loop steps i list₀ len b n1 k₀ list k =
 abbrev μ-loop : tie.MeasureT-loop
 μ-loop steps i list₀ len b n1 k₀ list k = n1 - k
 
--- src/stored.rt:41:5
 size-1024-requires : tie.Need-size-1024-requires Inv-loop μ-loop
 size-1024-requires c κs = search needs
 
--- src/stored.rt:42:5
 size-288-requires : tie.Need-size-288-requires Inv-loop μ-loop
 size-288-requires c κs = search needs
 
--- src/stored.rt:43:13
 mul-b : tie.Need-mul-b Inv-loop μ-loop
 mul-b c = search needs
 
--- src/stored.rt:44:20
 add-n1 : tie.Need-add-n1 Inv-loop μ-loop
 add-n1 c = search needs
 
--- src/stored.rt:44:14
 element-copy-out-n1 : tie.Need-element-copy-out-n1 Inv-loop μ-loop
 element-copy-out-n1 c = search needs
 
--- src/stored.rt:44:14
 cast-n1 : tie.Need-cast-n1 Inv-loop μ-loop
 cast-n1 c = search needs
 
--- src/stored.rt:46:5
 loop-holds : tie.Need-loop-holds Inv-loop μ-loop
 loop-holds c =
     let s = c .before .before .before .before in (
@@ -55,35 +45,27 @@ loop-holds c =
       push-none (now (s .args .steps)) (s .args .i) (now (s .args .list)) (s .args .len),
     )
 
--- src/stored.rt:47:31
 add-list : tie.Need-add-list Inv-loop μ-loop
 add-list c = search needs
 
--- src/stored.rt:47:31
 add-list-2 : tie.Need-add-list-2 Inv-loop μ-loop
 add-list-2 c = search needs
 
--- src/stored.rt:47:25
 element-copy-out-list : tie.Need-element-copy-out-list Inv-loop μ-loop
 element-copy-out-list c = search needs
 
--- src/stored.rt:47:14
 add-list-3 : tie.Need-add-list-3 Inv-loop μ-loop
 add-list-3 c = search needs
 
--- src/stored.rt:47:9
 element-write-list : tie.Need-element-write-list Inv-loop μ-loop
 element-write-list c = search needs
 
--- src/stored.rt:48:13
 add-k : tie.Need-add-k Inv-loop μ-loop
 add-k c = search needs
 
--- src/stored.rt:46:5
 loop-less : tie.Need-loop-less Inv-loop μ-loop
 loop-less c = search needs
 
--- src/stored.rt:46:5
 loop-again : tie.Need-loop-again Inv-loop μ-loop
 loop-again c =
     let s = c .before .before .before .before .before .before .before in
@@ -94,11 +76,9 @@ loop-again c =
       push-input (now (s .args .steps)) (s .args .i) (now (s .args .list)) (l .list) (s .args .len) (l .k) (omega arith) (l .inv .2) (c .before .loop-test .taken) (l .inv .3),
     )
 
--- src/stored.rt:50:5
 add-result : tie.Need-add-result Inv-loop μ-loop
 add-result c = search needs
 
--- src/stored.rt:35:1
 returns : tie.Need-returns Inv-loop μ-loop
 returns c =
     let s = c .before .before .before .before .before .before in

@@ -5,22 +5,16 @@ use borrow.Author.Needs.{needs}
 use Rattle.ir_graph.proofs.stored.kind_of.Statement.{statement}
 use Rattle.ir_graph.proofs.stored.kind_of.Tie as tie
 use Rattle.ir_graph.proofs.stored.kind_of.Reads as reads
-use Rattle.ir_graph.proofs.stored.kind_of.Lts as lts
-use Rattle.plan.proofs.ir.IR.of_number.Reads as of-number-reads
 
--- src/stored.rt:15:25
 mul-of-number : tie.Need-mul-of-number
 mul-of-number c = search needs
 
--- src/stored.rt:15:19
 element-copy-out-of-number : tie.Need-element-copy-out-of-number
 element-copy-out-of-number c = search needs
 
--- src/stored.rt:15:5
 of-number-requires : tie.Need-of-number-requires
 of-number-requires c κs = search needs
 
--- src/stored.rt:11:1
 returns : tie.Need-returns
 returns c = c .of-number .ensures ∙ stored-kind (now (c .before .before .args .steps)) (c .before .before .args .i)
 
