@@ -8,3 +8,4 @@ pub mod SecondPass
 pub mod Rows
 pub mod Graphs
 pub mod Outs
+pub mod NodeKey

@@ -4,3 +4,4 @@ pub mod Hits
 pub mod Edges
 pub mod Built
 pub mod Outs
+pub mod NodeKey

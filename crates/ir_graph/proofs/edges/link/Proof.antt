@@ -7,7 +7,6 @@ use lib.ListN.{length}
 use Rattle.ir_graph.proofs.Linking.{So-far, none-linked, next-linked, all-linked}
 use Rattle.ir_graph.proofs.edges.link.Statement.{statement}
 use Rattle.ir_graph.proofs.edges.link.Tie as tie
-use Rattle.ir_graph.proofs.edges.link.Reads as reads
 
 abbrev Inv-loop : tie.InvT-loop
 Inv-loop step places start end consumer₀ slot₀ producer₀ edges num-inputs k₀ consumer slot producer k =

@@ -4,7 +4,6 @@ use Rattle.ir_graph.proofs.Linking.{edge-more}
 use borrow.Author.Needs.{needs}
 use Rattle.ir_graph.proofs.edges.make_edge.Statement.{statement}
 use Rattle.ir_graph.proofs.edges.make_edge.Tie as tie
-use Rattle.ir_graph.proofs.edges.make_edge.Reads as reads
 
 size-256-requires : tie.Need-size-256-requires
 size-256-requires c κs = search needs

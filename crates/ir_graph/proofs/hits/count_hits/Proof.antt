@@ -9,7 +9,6 @@ use Rattle.plan.specs.Stored.{stored-steps}
 use Rattle.ir_graph.proofs.FirstPass.{Popping, begins, ended, top-there, hit-fits, room-new, turns-left, popping-next}
 use Rattle.ir_graph.proofs.hits.count_hits.Statement.{statement}
 use Rattle.ir_graph.proofs.hits.count_hits.Tie as tie
-use Rattle.ir_graph.proofs.hits.count_hits.Reads as reads
 
 abbrev Inv-loop : tie.InvT-loop
 Inv-loop steps n hits₀ stack₀ len₀ turns₀ hits stack len turns = Popping (stored-steps steps n) stack hits len turns

@@ -9,7 +9,6 @@ use Rattle.ir_graph.proofs.Turning.{other-pushes, other-hit, cache-hit,
 use borrow.Author.Needs.{needs}
 use Rattle.ir_graph.proofs.hits.meet.Statement.{statement}
 use Rattle.ir_graph.proofs.hits.meet.Tie as tie
-use Rattle.ir_graph.proofs.hits.meet.Reads as reads
 
 is-cache-requires : tie.Need-is-cache-requires
 is-cache-requires c κs = search needs

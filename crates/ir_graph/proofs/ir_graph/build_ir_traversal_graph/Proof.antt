@@ -6,7 +6,6 @@ use Rattle.ir_graph.proofs.FirstPass.{zeros}
 use Rattle.ir_graph.proofs.Outs.{producer-there, out-edges}
 use Rattle.ir_graph.proofs.ir_graph.build_ir_traversal_graph.Statement.{statement}
 use Rattle.ir_graph.proofs.ir_graph.build_ir_traversal_graph.Tie as tie
-use Rattle.ir_graph.proofs.ir_graph.build_ir_traversal_graph.Reads as reads
 
 count-hits-requires : tie.Need-count-hits-requires
 count-hits-requires c κs = let p = c .before .pre in (p .0, (p .1 .0, (p .1 .1, zeros 32)))

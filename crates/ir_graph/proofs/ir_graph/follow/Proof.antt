@@ -9,7 +9,6 @@ use Rattle.ir_graph.proofs.Turning.{other-follows, other-used, cache-us
 use borrow.Author.Needs.{needs}
 use Rattle.ir_graph.proofs.ir_graph.follow.Statement.{statement}
 use Rattle.ir_graph.proofs.ir_graph.follow.Tie as tie
-use Rattle.ir_graph.proofs.ir_graph.follow.Reads as reads
 
 is-cache-requires : tie.Need-is-cache-requires
 is-cache-requires c κs = search needs

@@ -10,7 +10,6 @@ use Rattle.ir_graph.proofs.SecondPass.{Turn}
 use Rattle.ir_graph.proofs.Graphs.{Placing, placing, turn-at, places-left, placing-next, built}
 use Rattle.ir_graph.proofs.ir_graph.grow.Statement.{statement}
 use Rattle.ir_graph.proofs.ir_graph.grow.Tie as tie
-use Rattle.ir_graph.proofs.ir_graph.grow.Reads as reads
 
 abbrev Inv-loop : tie.InvT-loop
 Inv-loop steps n hits₀ places₀ consumer₀ slot₀ producer₀ in-edges₀ len₀ edges₀ i₀ hits places consumer slot producer in-edges len edges i =

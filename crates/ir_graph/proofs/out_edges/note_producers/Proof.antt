@@ -8,7 +8,6 @@ use Rattle.ir_graph.specs.Outs.{Noted}
 use Rattle.ir_graph.proofs.Outs.{none-noted, next-noted}
 use Rattle.ir_graph.proofs.out_edges.note_producers.Statement.{statement}
 use Rattle.ir_graph.proofs.out_edges.note_producers.Tie as tie
-use Rattle.ir_graph.proofs.out_edges.note_producers.Reads as reads
 
 abbrev Inv-loop : tie.InvT-loop
 Inv-loop producer edges out-edge₀ k₀ out-edge k =

@@ -7,7 +7,6 @@ use Rattle.ir_graph.proofs.Turning.{a-root, no-root}
 use borrow.Author.Needs.{needs}
 use Rattle.ir_graph.proofs.roots.push_root.Statement.{statement}
 use Rattle.ir_graph.proofs.roots.push_root.Tie as tie
-use Rattle.ir_graph.proofs.roots.push_root.Reads as reads
 
 size-288-requires : tie.Need-size-288-requires
 size-288-requires c κs = search needs

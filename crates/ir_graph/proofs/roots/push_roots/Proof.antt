@@ -9,7 +9,6 @@ use Rattle.ir_graph.specs.Pushed.{Pushed}
 use Rattle.ir_graph.proofs.Pushing.{no-roots, next-root, few-roots}
 use Rattle.ir_graph.proofs.roots.push_roots.Statement.{statement}
 use Rattle.ir_graph.proofs.roots.push_roots.Tie as tie
-use Rattle.ir_graph.proofs.roots.push_roots.Reads as reads
 
 abbrev Inv-loop : tie.InvT-loop
 Inv-loop steps n list₀ len₀ i₀ list len i = (i ≤ n) × (len ≤ i) × Pushed (sinks (stored-steps steps i)) list₀ 0 list len

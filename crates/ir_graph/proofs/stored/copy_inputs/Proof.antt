@@ -8,7 +8,6 @@ use lib.ListN.{length, take, length-set}
 use Rattle.ir_graph.proofs.Inputs.{inputs-of, input-count, push-none, push-input, inputs-pushed}
 use Rattle.ir_graph.proofs.stored.copy_inputs.Statement.{statement}
 use Rattle.ir_graph.proofs.stored.copy_inputs.Tie as tie
-use Rattle.ir_graph.proofs.stored.copy_inputs.Reads as reads
 
 abbrev Inv-loop : tie.InvT-loop
 Inv-loop steps i list₀ len b n1 k₀ list k =

@@ -1,7 +1,6 @@
 use borrow.Author.Needs.{needs}
 use Rattle.ir_graph.proofs.stored.is_cache.Statement.{statement}
 use Rattle.ir_graph.proofs.stored.is_cache.Tie as tie
-use Rattle.ir_graph.proofs.stored.is_cache.Reads as reads
 
 kind-of-requires : tie.Need-kind-of-requires
 kind-of-requires c κs = search needs

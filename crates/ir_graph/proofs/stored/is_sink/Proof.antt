@@ -1,7 +1,6 @@
 use borrow.Author.Needs.{needs}
 use Rattle.ir_graph.proofs.stored.is_sink.Statement.{statement}
 use Rattle.ir_graph.proofs.stored.is_sink.Tie as tie
-use Rattle.ir_graph.proofs.stored.is_sink.Reads as reads
 
 kind-of-requires : tie.Need-kind-of-requires
 kind-of-requires c κs = search needs

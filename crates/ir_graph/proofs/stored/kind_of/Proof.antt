@@ -4,7 +4,6 @@ use Rattle.ir_graph.proofs.Inputs.{stored-kind}
 use borrow.Author.Needs.{needs}
 use Rattle.ir_graph.proofs.stored.kind_of.Statement.{statement}
 use Rattle.ir_graph.proofs.stored.kind_of.Tie as tie
-use Rattle.ir_graph.proofs.stored.kind_of.Reads as reads
 
 mul-of-number : tie.Need-mul-of-number
 mul-of-number c = search needs
