@@ -41,7 +41,7 @@ opened-other ps past m n h = rw (times-other m n past h) refl
 
 module _ (ps : List Step) (plan : Plan ps) where
   -- an opened step has all its places behind it
-  pub used-up : (past waiting : List ℕ) → Counted ps past waiting → (n : ℕ) → T (opened ps past n) → times n waiting ≡ 0
+  used-up : (past waiting : List ℕ) → Counted ps past waiting → (n : ℕ) → T (opened ps past n) → times n waiting ≡ 0
   unfolding opened
   used-up past waiting c n o = by (is-cache ps n) (plan .once n) (cache-named ps plan n) o
     where
@@ -55,7 +55,7 @@ module _ (ps : List Step) (plan : Plan ps) where
     not-yet = false-of (opened ps past n) (λ o. let z = used-up past (n ∷ ns) c n o in omega (arith, times-same n ns))
 
     -- n is opened here just if it opens here
-    pub opens-here : opened ps (n ∷ past) n ≡ opens ps (popped ps) past n
+    opens-here : opened ps (n ∷ past) n ≡ opens ps (popped ps) past n
     unfolding opened opens
     opens-here = rw (times-same n past) (by (is-cache ps n) (cache-named ps plan n) (hits-named ps plan n))
       where

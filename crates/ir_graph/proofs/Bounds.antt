@@ -1,22 +1,22 @@
 -- How many places and edges there can be, by the steps that are stored: step 0 has no input, and the others have at most 8.
-use mathlib.Core.Path.{_≡_, refl, ap, sym, _∙_}
-use Prim.Native.Nat.{ℕ, zero, suc, _+_, _*_, _≤_, _<_}
+use mathlib.Core.Path.{_≡_, refl, ap}
+use Prim.Native.Nat.{ℕ, suc, _*_, _≤_, _<_}
 use native.Mathlib.Omega.{arith}
 use native.Mathlib.Nat.{not-suc-le-zero}
-use mathlib.Core.List.{List, [], _∷_, _++_, List·Memᴰ, List·Memᴰ·head}
-use lib.ListN.{length, getD, length-append, length-take, length-drop}
+use mathlib.Core.List.{List, [], _∷_, List·Memᴰ, List·Memᴰ·head}
+use lib.ListN.{length, length-append}
 use Rattle.plan.specs.Lists.{concat-map}
-use Rattle.plan.specs.Sheet.{Step, no-step, step-at, step-of}
+use Rattle.plan.specs.Sheet.{Step, no-step, step-at}
 use Rattle.plan.specs.Faults.{named}
 use Rattle.plan.specs.declared.ir.IR.{IR}
 use Rattle.plan.specs.Kinds.{same-ir}
-use Rattle.plan.specs.Graph.{sinks, is-cache, most-places}
-use Rattle.plan.specs.Stored.{table, stored-step, stored-steps, Step-formed}
+use Rattle.plan.specs.Graph.{sinks, is-cache}
+use Rattle.plan.specs.Stored.{stored-step, stored-steps, Step-formed}
 use Rattle.plan.specs.StoredLaws.{length-table, table-at}
 use Rattle.claims.proofs.Plans.{Plan}
 use Rattle.claims.proofs.Sizes.{few-sinks}
 use Rattle.ir_graph.specs.Turns.{cached}
-use Rattle.ir_graph.proofs.Inputs.{inputs-of, few-inputs}
+use Rattle.ir_graph.proofs.Inputs.{few-inputs}
 
 named-from : (ps : List Step) → ((i : ℕ) → i < length ps → length (step-at ps i .inputs) ≤ 8) → length (named ps) ≤ 8 * length ps
 unfolding named concat-map

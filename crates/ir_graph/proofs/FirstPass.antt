@@ -1,26 +1,25 @@
 -- The first pass: what the loop of count_hits keeps.
 use mathlib.Core.Path.{_≡_, refl, sym, ap, _∙_, subst}
 use mathlib.Core.Logic.{inl, inr, _≢_}
-use Prim.Native.Nat.{ℕ, zero, suc, _+_, _-_, _≤_, _<_}
+use Prim.Native.Nat.{ℕ, zero, suc, _+_, _≤_, _<_}
 use native.Mathlib.Omega.{arith}
 use native.Mathlib.Decide.{ℕ-discrete}
-use native.Mathlib.Numerals.{add-one}
 use mathlib.Core.Bool.{Bool, true, false, _&&_}
-use mathlib.Core.List.{List, [], _∷_, _++_, reverse, reverse-append, reverse-cons, List·Memᴰ, List·Memᴰ·head, List·Memᴰ·not-nil, List·Memᴰ·append-cases, Memᴰ·append-left, Memᴰ·append-right}
+use mathlib.Core.List.{List, [], _∷_, _++_, reverse, reverse-append, List·Memᴰ, List·Memᴰ·head, List·Memᴰ·not-nil, List·Memᴰ·append-cases, Memᴰ·append-left}
 use lib.Dec.{T, eqb, ltb, ltb→lt, lt→ltb}
 use lib.ListN.{length, getD, take, set, replicate, length-append, length-reverse, length-take, length-set}
 use lib.Seq.{take-suc, getD-set-same, getD-set-other}
 use Rattle.plan.specs.declared.ir.IR.{IR}
-use Rattle.plan.specs.Kinds.{same-ir, ir-number}
+use Rattle.plan.specs.Kinds.{same-ir}
 use Rattle.plan.specs.Lists.{if_then_else_, any?, sum, among, times}
 use Rattle.plan.specs.Sheet.{Step, step-at}
 use Rattle.plan.specs.Faults.{named}
-use Rattle.plan.specs.Graph.{sinks, is-cache, most-places, pushes, pop, popped, hits}
+use Rattle.plan.specs.Graph.{sinks, is-cache, most-places, pushes, pop, popped}
 use Rattle.plan.specs.Stored.{stored-step, stored-steps, Step-formed}
 use Rattle.claims.proofs.Booleans.{T-eq}
 use Rattle.claims.proofs.Counts.{sum-append, sum-reverse, sum-le, sum-ones, times-same, times-other, mem-reverse, only}
 use Rattle.claims.proofs.Plans.{Plan, root-there, input-there, cache-named}
-use Rattle.claims.proofs.Reached.{followed, followed-le, followed-none}
+use Rattle.claims.proofs.Reached.{followed-le, followed-none}
 use Rattle.claims.proofs.Hits.{Counted, counted-next, among-times, times-among}
 use Rattle.ir_graph.specs.Pushed.{Pushed}
 use Rattle.ir_graph.specs.Turns.{cached, pushed-by, hit}
@@ -40,6 +39,15 @@ pub record Popping (ps : List Step) (stack counts : List ℕ) (len turns : ℕ) 
   pub room : length stack ≡ 288
   pub fits : len ≤ 288
   pub size : length counts ≡ 32
+
+-- what a turn at the step `top` may rely on, with k waiting below it
+pub record Turn (bytes : List ℕ) (n : ℕ) (counts : List ℕ) (k turns top : ℕ) : Type 0 where
+  pub there : top < n
+  pub formed : Step-formed bytes top
+  pub hit : T (cached bytes top) → getD counts top 0 < 255
+  pub room : k + length (pushed-by bytes counts top) ≤ 288
+  pub left : turns < most-places (stored-steps bytes n)
+  pub few : turns < 280
 
 pub zeros : (n i : ℕ) → _≡_ {A = ℕ} (getD (replicate n 0) i 0) 0
 zeros zero i = refl
@@ -108,12 +116,9 @@ module _ (bytes : List ℕ) (n : ℕ) (small : n ≤ 32) (plan : Plan (stored-st
     counted-top : Counted ps (p .met) (top ∷ reverse (take k stack))
     counted-top = rw waits at (p .counted)
 
-    pub top-there : top < n
+    top-there : top < n
     top-there =
         omega (arith, length-steps bytes n, p .there top (mem-reverse top (take len stack) (rw waits (List·Memᴰ·head refl))))
-
-    pub top-formed : Step-formed bytes top
-    top-formed = formed top top-there
 
     abbrev new : List ℕ
     new = pushed-by bytes counts top
@@ -144,10 +149,10 @@ module _ (bytes : List ℕ) (n : ℕ) (small : n ≤ 32) (plan : Plan (stored-st
         let f = few (p .met ++ (top ∷ [])) (reverse new ++ reverse (take k stack)) counted-new in
         omega (arith, f, length-append (p .met) (top ∷ []), length-append (reverse new) (reverse (take k stack)), length-reverse new, length-rest)
 
-    pub room-new : k + length new ≤ 288
+    room-new : k + length new ≤ 288
     room-new = omega (arith, all-fit, namings bytes n small plan formed, roots bytes n small plan formed)
 
-    pub hit-fits : T (cached bytes top) → getD counts top 0 < 255
+    hit-fits : T (cached bytes top) → getD counts top 0 < 255
     hit-fits t =
         let c = subst T (sym (cache-there bytes n top top-there)) t in
         omega (
@@ -161,8 +166,16 @@ module _ (bytes : List ℕ) (n : ℕ) (small : n ≤ 32) (plan : Plan (stored-st
           namings bytes n small plan formed,
         )
 
-    pub turns-left : (turns < most-places ps) × (turns < 280)
-    turns-left = omega (arith, p .popped-so-far, all-fit, namings bytes n small plan formed, roots bytes n small plan formed)
+    pub turn : Turn bytes n counts k turns top
+    turn =
+        record {
+          there = top-there;
+          formed = formed top top-there;
+          hit = hit-fits;
+          room = room-new;
+          left = omega (arith, p .popped-so-far, all-fit);
+          few = omega (arith, p .popped-so-far, all-fit, namings bytes n small plan formed, roots bytes n small plan formed);
+        }
 
     counts-next : (m : ℕ) → T (is-cache ps m) → getD (hit bytes counts top) m 0 ≡ times m (p .met ++ (top ∷ []))
     unfolding hit sum
@@ -216,7 +229,7 @@ module _ (bytes : List ℕ) (n : ℕ) (small : n ≤ 32) (plan : Plan (stored-st
         }
       where
         some-fuel : (x : ℕ) → turns + x ≡ most-places ps → (f : ℕ) × (x ≡ suc f)
-        some-fuel zero l = absurd (omega (arith, turns-left .0))
+        some-fuel zero l = absurd (omega (arith, turn .left))
         some-fuel (suc f) l = (f, refl)
 
         last : take len stack ≡ take k stack ++ (top ∷ [])

@@ -1,15 +1,14 @@
 -- The second pass over the arrays: its loop begins, goes on and ends.
-use mathlib.Core.Path.{_≡_, refl, sym, ap, _∙_, subst}
+use mathlib.Core.Path.{_≡_, ap, _∙_, subst}
 use Prim.Native.Nat.{ℕ, _+_, _≤_, _<_}
 use native.Mathlib.Omega.{arith}
-use mathlib.Core.List.{List, [], _++_}
-use lib.ListN.{length, getD, take, drop, set}
+use mathlib.Core.List.{List, _++_}
+use lib.ListN.{length, getD, set}
 use Rattle.plan.specs.Sheet.{Step}
 use Rattle.plan.specs.Faults.{named}
-use Rattle.plan.specs.Graph.{Edge, graph, edges-into, sinks}
+use Rattle.plan.specs.Graph.{edges-into, sinks}
 use Rattle.plan.specs.Stored.{table, stored-steps, Step-formed}
 use Rattle.claims.proofs.Plans.{Plan}
-use Rattle.ir_graph.specs.declared.ir_graph.Graph.{Graph}
 use Rattle.ir_graph.specs.Pushed.{Pushed}
 use Rattle.ir_graph.specs.Turns.{followed-by, used}
 use Rattle.ir_graph.specs.Hits.{Hits-counted}
@@ -17,6 +16,7 @@ use Rattle.ir_graph.specs.Edges.{edges-of, Linked}
 use Rattle.ir_graph.specs.Built.{Built}
 use Rattle.ir_graph.proofs.Bounds.{namings}
 use Rattle.ir_graph.proofs.Linking.{length-edges, between}
+use Rattle.ir_graph.proofs.There.{place-there, consumer-there, slot-there, producer-there}
 use Rattle.ir_graph.proofs.SecondPass.{Growing, Turn, past-of, begins, turn, turns-left, gone, just-pushed, growing-next, grown}
 use Rattle.ir_graph.proofs.Rows.{Rows, no-rows, rows-next, all-rows}
 
@@ -69,6 +69,10 @@ module _ (bytes : List ℕ) (n : ℕ) (small : n ≤ 32) (plan : Plan (stored-st
         edges-are = b;
         few-places = g .growing .fits;
         few-edges = omega (arith, g .growing .made, length-edges c s p edges, few, namings bytes n small plan formed);
+        place-there = place-there ps plan places len (omega (arith, g .growing .fits, g .growing .room)) a;
+        consumer-there = consumer-there ps c s p edges b plan;
+        slot-there = slot-there ps c s p edges b plan;
+        producer-there = producer-there ps c s p edges b plan;
         in-rows = all-rows bytes n small plan formed places counts firsts (edges-of c s p edges) len i (g .growing) h (g .rows);
       }
     where

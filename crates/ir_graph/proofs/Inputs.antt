@@ -1,13 +1,13 @@
 -- The inputs of a stored step, and pushing them one by one.
-use mathlib.Core.Path.{_≡_, refl, sym, ap, _∙_}
+use mathlib.Core.Path.{_≡_, sym, ap, _∙_}
 use mathlib.Core.List.{List, [], _∷_, _++_, append-assoc, append-nil}
-use Prim.Native.Nat.{ℕ, zero, suc, _+_, _*_, _≤_, _<_}
+use Prim.Native.Nat.{ℕ, suc, _+_, _*_, _≤_, _<_}
 use native.Mathlib.Omega.{arith}
 use native.Mathlib.Numerals.{add-one}
-use lib.ListN.{length, getD, take, drop, set, length-take, length-drop, length-set}
+use lib.ListN.{length, getD, take, drop, set, length-take, length-drop}
 use lib.Seq.{take-suc, take-suc-set, take-all, getD-take, getD-drop, drop-drop}
 use Rattle.plan.specs.Kinds.{ir}
-use Rattle.plan.specs.Sheet.{Step, step-of}
+use Rattle.plan.specs.Sheet.{step-of}
 use Rattle.plan.specs.Stored.{stored-step, Step-formed}
 use Rattle.ir_graph.specs.Pushed.{Pushed}
 

@@ -6,6 +6,7 @@ pub mod Bounds
 pub mod FirstPass
 pub mod SecondPass
 pub mod Rows
+pub mod There
 pub mod Graphs
 pub mod Outs
 pub mod NodeKey

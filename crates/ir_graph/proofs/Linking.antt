@@ -1,14 +1,13 @@
 -- Making the edges of one step.
-use mathlib.Core.Path.{_≡_, refl, sym, ap, _∙_}
+use mathlib.Core.Path.{_≡_, refl, ap, _∙_}
 use mathlib.Core.List.{List, [], _∷_, _++_, map, append-assoc, append-nil}
-use Prim.Native.Nat.{ℕ, zero, suc, _+_, _-_, _≤_, _<_}
+use Prim.Native.Nat.{ℕ, suc, _+_, _-_, _≤_, _<_}
 use native.Mathlib.Omega.{arith}
 use native.Mathlib.Numerals.{add-one}
-use lib.ListN.{length, getD, take, drop, set, length-append, length-take, length-drop}
+use lib.ListN.{length, getD, take, drop, set, length-take, length-drop}
 use lib.Seq.{take-suc, take-all, getD-take, getD-drop, getD-set-same, getD-set-other}
 use Rattle.plan.specs.Lists.{numbered}
 use Rattle.plan.specs.Graph.{Edge, edges-into}
-use Rattle.plan.specs.Stored.{table}
 use Rattle.plan.specs.StoredLaws.{length-table}
 use Rattle.ir_graph.specs.Edges.{made, edges-of, Linked}
 use Rattle.ir_graph.proofs.Pushing.{table-more, table-same}

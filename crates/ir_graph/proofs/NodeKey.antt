@@ -1,8 +1,7 @@
 -- IRNodeKey: the ways through `new`, and that a step's line can stand for its key.
-use mathlib.Core.Path.{_≡_, refl, sym, ap, _∙_}
+use mathlib.Core.Path.{_≡_, sym, ap}
 use mathlib.Core.List.{List}
 use Prim.Native.Nat.{ℕ, _+_, _*_}
-use native.Mathlib.Omega.{arith}
 use mathlib.Core.Bool.{Bool, true, false}
 use lib.Dec.{T}
 use lib.ListN.{getD}
@@ -13,7 +12,6 @@ use Rattle.plan.specs.Lists.{if_then_else_}
 use Rattle.plan.specs.Sheet.{Step, Sheet, step-at, step-of}
 use Rattle.plan.specs.Stored.{stored-step}
 use Rattle.claims.specs.WellFormed.{WellFormed}
-use Rattle.claims.proofs.Counts.{T-of}
 use Rattle.claims.proofs.StepTable.{same-kind}
 use Rattle.claims.proofs.CacheIds.{one-line-each-id}
 use Rattle.ir_graph.specs.declared.ir_node_key.IRNodeKey.{IRNodeKey}

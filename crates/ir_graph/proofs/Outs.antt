@@ -1,33 +1,29 @@
 -- The one edge that leaves a step.
-use mathlib.Core.Path.{_≡_, refl, sym, ap, _∙_, subst}
-use mathlib.Core.Logic.{_≢_}
-use Prim.Native.Nat.{ℕ, zero, suc, _+_, _≤_, _<_}
+use mathlib.Core.Path.{_≡_, sym, ap, _∙_, subst}
+use Prim.Native.Nat.{ℕ, _+_, _<_}
 use native.Mathlib.Omega.{arith}
 use native.Mathlib.Decide.{ℕ-discrete, decLt}
 use native.Mathlib.Nat.{not-suc-le-zero}
 use mathlib.Core.Bool.{Bool, true, false, not}
-use mathlib.Core.List.{List, [], _∷_, List·Memᴰ}
+use mathlib.Core.List.{List}
 use mathlib.Core.Option.{some}
-use lib.Dec.{T, eqb}
-use lib.ListN.{length, getD, set, length-set}
+use lib.Dec.{T}
+use lib.ListN.{length, getD, set}
 use lib.Seq.{getD-set-same, getD-set-other}
 use Rattle.plan.specs.declared.ir.IR.{IR}
 use Rattle.plan.specs.Kinds.{same-ir}
-use Rattle.plan.specs.Lists.{if_then_else_, sum, times}
+use Rattle.plan.specs.Lists.{if_then_else_, times}
 use Rattle.plan.specs.Sheet.{Step, step-at}
-use Rattle.plan.specs.Faults.{named}
 use Rattle.plan.specs.Graph.{Edge, graph, sinks, is-cache}
 use Rattle.plan.specs.Visit.{is-out-of, no-edge}
-use Rattle.plan.specs.Stored.{table}
-use Rattle.plan.specs.StoredLaws.{table-at}
 use Rattle.claims.specs.Demand3.{leaving-among}
-use Rattle.claims.proofs.Counts.{counted-twice, mem-at, only}
+use Rattle.claims.proofs.Counts.{counted-twice, only}
 use Rattle.claims.proofs.Edges.{outs, leaving-there, leaving-out, is-producer, producer-of, same-some}
-use Rattle.claims.proofs.Plans.{Plan, input-there}
+use Rattle.claims.proofs.Plans.{Plan}
 use Rattle.claims.proofs.Places.{graph-ordered}
-use Rattle.ir_graph.specs.Edges.{made, edges-of}
+use Rattle.ir_graph.specs.Edges.{edges-of}
 use Rattle.ir_graph.specs.Outs.{Noted, Out-edges}
-use Rattle.ir_graph.proofs.Linking.{length-edges}
+use Rattle.ir_graph.proofs.There.{length-graph, edge-at}
 
 -- Noting the producers -----------------------------------------------------------------------------------------------------------
 
@@ -57,30 +53,12 @@ next-noted producer noted e h n = record { there = λ k l. by k l .0; leaves = �
 
 -- The graph's edges --------------------------------------------------------------------------------------------------------------
 
-module _ (c s p : List ℕ) (e : ℕ) where
-  pub edge-there : (k : ℕ) → k < e → getD (edges-of c s p e) k no-edge ≡ made (getD c k 0) (getD s k 0) (getD p k 0)
-  unfolding edges-of
-  edge-there k h = table-at (λ j. made (getD c j 0) (getD s j 0) (getD p j 0)) e k no-edge h
-
 module _ (ps : List Step) (plan : Plan ps) (c s p : List ℕ) (e : ℕ) (edges : edges-of c s p e ≡ graph ps .1) where
-  length-graph : length (graph ps .1) ≡ e
-  length-graph = ap length (sym edges) ∙ length-edges c s p e
-
-  edge-at : (k : ℕ) → k < e → getD (graph ps .1) k no-edge ≡ made (getD c k 0) (getD s k 0) (getD p k 0)
-  edge-at k h = rw (← edges) (edge-there c s p e k h)
-
-  pub producer-there : (k : ℕ) → k < e → getD p k 0 < length ps
-  producer-there k h =
-      let d = getD (graph ps .1) k no-edge in
-      let (l, v) = graph-ordered ps plan .made d (mem-at (graph ps .1) k no-edge (omega (arith, length-graph))) in
-      let i : some (getD p k 0) ≡ some (getD (step-at ps (d .consumer) .inputs) (d .slot) 0) = sym (ap (λ (x : Edge). x .producer) (edge-at k h)) ∙ v in
-      rw (same-some i) (input-there ps plan (d .consumer) (getD (step-at ps (d .consumer) .inputs) (d .slot) 0) (mem-at (step-at ps (d .consumer) .inputs) (d .slot) 0 l))
-
   leaves : (m k : ℕ) → k < e → getD p k 0 ≡ m → T (is-out-of m (getD (graph ps .1) k no-edge))
-  leaves m k h v = is-producer m (getD (graph ps .1) k no-edge) (ap (λ (x : Edge). x .producer) (edge-at k h) ∙ ap some v)
+  leaves m k h v = is-producer m (getD (graph ps .1) k no-edge) (ap (λ (x : Edge). x .producer) (edge-at ps c s p e edges k h) ∙ ap some v)
 
   left-by : (m k : ℕ) → k < e → T (is-out-of m (getD (graph ps .1) k no-edge)) → getD p k 0 ≡ m
-  left-by m k h t = same-some (sym (ap (λ (x : Edge). x .producer) (edge-at k h)) ∙ producer-of m (getD (graph ps .1) k no-edge) t)
+  left-by m k h t = same-some (sym (ap (λ (x : Edge). x .producer) (edge-at ps c s p e edges k h)) ∙ producer-of m (getD (graph ps .1) k no-edge) t)
 
   module _ (m : ℕ) (there : m < length ps) (no-sink : T (not (same-ir (step-at ps m .kind) IR.Sink))) (no-cache : T (not (is-cache ps m))) where
     one-leaves : outs m (graph ps .1) ≡ 1
@@ -102,11 +80,11 @@ module _ (ps : List Step) (plan : Plan ps) (c s p : List ℕ) (e : ℕ) (edges :
     leaving = leaving-among m (graph ps .1)
 
     leaving-here : leaving < e
-    leaving-here = omega (arith, leaving-there m (graph ps .1) (omega (arith, one-leaves)), length-graph)
+    leaving-here = omega (arith, leaving-there m (graph ps .1) (omega (arith, one-leaves)), length-graph ps c s p e edges)
 
     noted-one : (noted : List ℕ) → Noted p e noted → (getD noted m 0 ≡ leaving) × (getD noted m 0 < e)
     noted-one noted n =
-        let v = left-by m leaving leaving-here (leaving-out m (graph ps .1) (omega (arith, leaving-here, length-graph))) in
+        let v = left-by m leaving leaving-here (leaving-out m (graph ps .1) (omega (arith, leaving-here, length-graph ps c s p e edges))) in
         let j = getD noted m 0 in
         let l : j < e = subst (λ (x : ℕ). getD noted x 0 < e) v (n .there leaving leaving-here) in
         let w : getD p j 0 ≡ m = subst (λ (x : ℕ). getD p (getD noted x 0) 0 ≡ x) v (n .leaves leaving leaving-here) in
@@ -115,14 +93,14 @@ module _ (ps : List Step) (plan : Plan ps) (c s p : List ℕ) (e : ℕ) (edges :
         same : (j : ℕ) → j < e → T (is-out-of m (getD (graph ps .1) j no-edge)) → T (is-out-of m (getD (graph ps .1) leaving no-edge))
             → Dec (j < leaving) → Dec (leaving < j) → j ≡ leaving
         same j l t u (yes a) b =
-            absurd (omega (arith, one-leaves, counted-twice (is-out-of m) (graph ps .1) no-edge j leaving a (omega (arith, leaving-here, length-graph)) t u))
+            absurd (omega (arith, one-leaves, counted-twice (is-out-of m) (graph ps .1) no-edge j leaving a (omega (arith, leaving-here, length-graph ps c s p e edges)) t u))
         same j l t u (no a) (yes b) =
-            absurd (omega (arith, one-leaves, counted-twice (is-out-of m) (graph ps .1) no-edge leaving j b (omega (arith, length-graph)) u t))
+            absurd (omega (arith, one-leaves, counted-twice (is-out-of m) (graph ps .1) no-edge leaving j b (omega (arith, length-graph ps c s p e edges)) u t))
         same j l t u (no a) (no b) = omega arith
 
   pub out-edges : (noted : List ℕ) → Noted p e noted → Out-edges ps (graph ps .1) noted
   out-edges noted n =
       record {
         number = λ m h a b. noted-one m h a b noted n .0;
-        there = λ m h a b. omega (arith, noted-one m h a b noted n .1, length-graph);
+        there = λ m h a b. omega (arith, noted-one m h a b noted n .1, length-graph ps c s p e edges);
       }

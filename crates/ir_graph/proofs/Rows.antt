@@ -1,7 +1,7 @@
 -- The edges into a step are made in a row, where its inputs follow.
 use mathlib.Core.Path.{_≡_, refl, sym, ap, _∙_, subst}
 use mathlib.Core.Logic.{_≢_}
-use Prim.Native.Nat.{ℕ, zero, suc, _+_, _-_, _≤_, _<_}
+use Prim.Native.Nat.{ℕ, suc, _+_, _≤_, _<_}
 use native.Mathlib.Omega.{arith}
 use native.Mathlib.Decide.{ℕ-discrete}
 use mathlib.Core.Bool.{Bool, true, false, _||_, not}
@@ -24,8 +24,7 @@ use Rattle.claims.proofs.Visits.{length-numbered}
 use Rattle.claims.proofs.Places.{opened, graph-ordered}
 use Rattle.ir_graph.specs.Edges.{made}
 use Rattle.ir_graph.specs.Built.{In-row}
-use Rattle.ir_graph.proofs.Bounds.{length-steps}
-use Rattle.ir_graph.proofs.SecondPass.{Growing, past-of, ps, top, past, rest, new, counted-top, following-new, top-there, grown}
+use Rattle.ir_graph.proofs.SecondPass.{Growing, past-of, rest, new, counted-top, following-new, top-there, grown}
 
 -- Edges into a step --------------------------------------------------------------------------------------------------------------
 

@@ -5,21 +5,21 @@ use Prim.Native.Nat.{ℕ, zero, suc, _+_, _-_, _≤_, _<_}
 use native.Mathlib.Omega.{arith}
 use native.Mathlib.Decide.{ℕ-discrete}
 use mathlib.Core.Bool.{Bool, true, false, _&&_, _||_, not}
-use mathlib.Core.List.{List, [], _∷_, _++_, map, reverse, reverse-append, reverse-reverse, append-nil, List·Memᴰ, List·Memᴰ·head, List·Memᴰ·tail, List·Memᴰ·not-nil, List·Memᴰ·append-cases}
+use mathlib.Core.List.{List, [], _∷_, _++_, reverse, reverse-append, reverse-reverse, append-nil, List·Memᴰ, List·Memᴰ·head, List·Memᴰ·tail, List·Memᴰ·not-nil, List·Memᴰ·append-cases}
 use lib.Dec.{T, eqb, eqb→eq}
 use lib.ListN.{length, getD, take, drop, set, length-append, length-reverse, length-take, length-drop, length-set, length-map, drop-of-length-le}
-use lib.Seq.{take-suc, take-take, take-all, take-append-le, drop-append-le, drop-cons, drop-at, getD-take, getD-set-same, getD-set-other}
+use lib.Seq.{take-suc, take-take, take-append-le, drop-append-le, drop-cons, drop-at, getD-take, getD-set-same, getD-set-other}
 use Rattle.plan.specs.declared.ir.IR.{IR}
 use Rattle.plan.specs.Kinds.{same-ir}
-use Rattle.plan.specs.Lists.{if_then_else_, sum, numbered, times}
+use Rattle.plan.specs.Lists.{if_then_else_, sum, times}
 use Rattle.plan.specs.Sheet.{Step, step-at}
 use Rattle.plan.specs.Faults.{named}
 use Rattle.plan.specs.Graph.{Edge, graph, grow, popped, hits, opens, following, edges-into, sinks, is-cache, most-places}
 use Rattle.plan.specs.Stored.{stored-step, stored-steps, Step-formed}
 use Rattle.claims.proofs.Booleans.{T-eq, equal}
-use Rattle.claims.proofs.Counts.{sum-append, sum-ones, times-same, times-other, only}
+use Rattle.claims.proofs.Counts.{sum-ones, times-same, times-other, only}
 use Rattle.claims.proofs.Plans.{Plan, root-there, input-there, cache-named}
-use Rattle.claims.proofs.Reached.{followed, followed-le, followed-none}
+use Rattle.claims.proofs.Reached.{followed-le, followed-none}
 use Rattle.claims.proofs.Hits.{hits-named}
 use Rattle.claims.proofs.Visits.{length-numbered}
 use Rattle.claims.proofs.Places.{Counted, opened, counted-next, none-opened}

@@ -20,5 +20,10 @@ pub record Built (ps : List Step) (places consumer slot producer in-edges : List
   pub edges-are : edges-of consumer slot producer (g .edges) ≡ graph ps .1
   pub few-places : g .places ≤ 288
   pub few-edges : g .edges ≤ 256
+  -- what is placed and linked are lines of the sheet
+  pub place-there : (k : ℕ) → k < g .places → getD places k 0 < length ps
+  pub consumer-there : (k : ℕ) → k < g .edges → getD consumer k 0 < length ps
+  pub slot-there : (k : ℕ) → k < g .edges → getD slot k 0 < length (step-at ps (getD consumer k 0) .inputs)
+  pub producer-there : (k : ℕ) → k < g .edges → getD producer k 0 < length ps
   -- the number of each step's first in-edge
   pub in-rows : (m : ℕ) → m < length ps → In-row ps (graph ps .1) m (getD in-edges m 0)

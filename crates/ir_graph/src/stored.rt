@@ -1,6 +1,6 @@
 // A step's kind and its inputs, read where the step is stored.
 ghost use mathlib.Core.Path.{_≡_};
-ghost use Prim.Native.Nat.{ℕ, _+_, _≤_, _<_};
+ghost use Prim.Native.Nat.{_+_, _≤_, _<_};
 ghost use lib.ListN.{length};
 ghost use Rattle.plan.specs.declared.ir.IR.{IR};
 ghost use Rattle.plan.specs.Kinds.{same-ir};

@@ -1,12 +1,11 @@
-use mathlib.Core.Path.{_≡_}
 use denote.Ref.{now}
-use Prim.Native.Nat.{ℕ, suc, _-_, _≤_}
+use Prim.Native.Nat.{ℕ, _-_, _≤_}
 use native.Mathlib.Omega.{arith}
 use borrow.Author.Needs.{needs}
 use lib.ListN.{getD, replicate, length-replicate}
 use Rattle.plan.specs.Graph.{most-places}
 use Rattle.plan.specs.Stored.{stored-steps}
-use Rattle.ir_graph.proofs.FirstPass.{Popping, begins, ended, top-there, hit-fits, room-new, turns-left, popping-next}
+use Rattle.ir_graph.proofs.FirstPass.{Popping, Turn, begins, ended, turn, popping-next}
 use Rattle.ir_graph.proofs.hits.count_hits.Statement.{statement}
 use Rattle.ir_graph.proofs.hits.count_hits.Tie as tie
 
@@ -15,6 +14,18 @@ Inv-loop steps n hits₀ stack₀ len₀ turns₀ hits stack len turns = Popping
 
 abbrev μ-loop : tie.MeasureT-loop
 μ-loop steps n hits₀ stack₀ len₀ turns₀ hits stack len turns = most-places (stored-steps steps n) - turns
+
+small : (c : tie.In-loop Inv-loop μ-loop) → c .before .before .before .before .before .before .args .n ≤ 32
+small c = c .before .before .before .before .before .before .pre .0
+
+turn-in : (c : tie.In-loop Inv-loop μ-loop)
+    → Turn (now (c .before .before .before .before .before .before .args .steps)) (c .before .before .before .before .before .before .args .n) (c .before .loop .hits) (c .before .loop .len - 1) (c .before .loop .turns)
+    (getD (c .before .loop .stack) (c .before .loop .len - 1) 0)
+turn-in c =
+    let s = c .before .before .before .before .before .before in
+    let l = c .before .loop in
+    turn (now (s .args .steps)) (s .args .n) (s .pre .0) (s .pre .1 .0) (s .pre .1 .1 .0)
+    (l .stack) (l .hits) (l .len) (l .turns) (l .len - 1) (l .inv) (omega arith)
 
 size-32-requires : tie.Need-size-32-requires Inv-loop μ-loop
 size-32-requires c κs = search needs
@@ -35,52 +46,25 @@ array-read-i : tie.Need-array-read-i Inv-loop μ-loop
 array-read-i c = search needs
 
 cast-i : tie.Need-cast-i Inv-loop μ-loop
-cast-i c =
-    let s = c .before .before .before .before .before .before in
-    let l = c .before .loop in
-    let e : l .len ≡ suc (l .len - 1) = omega arith in
-    omega (arith, top-there (now (s .args .steps)) (s .args .n) (s .pre .0) (s .pre .1 .0) (s .pre .1 .1 .0) (l .stack) (l .hits) (l .len) (l .turns) (l .len - 1) (l .inv) e, s .pre .0)
+cast-i c = let t = turn-in c in omega (arith, t .there, small c)
 
 meet-requires : tie.Need-meet-requires Inv-loop μ-loop
 meet-requires c κs =
-    let s = c .before .before .before .before .before .before .before .before in
-    let l = c .before .before .before .loop in
-    let e : l .len ≡ suc (l .len - 1) = omega arith in
-    let steps = now (s .args .steps) in
-    let there = top-there steps (s .args .n) (s .pre .0) (s .pre .1 .0) (s .pre .1 .1 .0) (l .stack) (l .hits) (l .len) (l .turns) (l .len - 1) (l .inv) e in (
-      omega arith,
-      (
-        s .pre .1 .1 .0 (getD (l .stack) (l .len - 1) 0) there,
-        (
-          hit-fits steps (s .args .n) (s .pre .0) (s .pre .1 .0) (s .pre .1 .1 .0) (l .stack) (l .hits) (l .len) (l .turns) (l .len - 1) (l .inv) e,
-          room-new steps (s .args .n) (s .pre .0) (s .pre .1 .0) (s .pre .1 .1 .0) (l .stack) (l .hits) (l .len) (l .turns) (l .len - 1) (l .inv) e,
-        ),
-      ),
-    )
+    let t = turn-in (c .before .before) in
+    (omega (arith, t .there, small (c .before .before)), (t .formed, (t .hit, t .room)))
 
 add-turns : tie.Need-add-turns Inv-loop μ-loop
-add-turns c =
-    let s = c .before .before .before .before .before .before .before .before .before in
-    let l = c .before .before .before .before .loop in
-    let e : l .len ≡ suc (l .len - 1) = omega arith in
-    let left = turns-left (now (s .args .steps)) (s .args .n) (s .pre .0) (s .pre .1 .0) (s .pre .1 .1 .0) (l .stack) (l .hits) (l .len) (l .turns) (l .len - 1) (l .inv) e in
-    omega (arith, left .1)
+add-turns c = let t = turn-in (c .before .before .before) in omega (arith, t .few)
 
 loop-less : tie.Need-loop-less Inv-loop μ-loop
-loop-less c =
-    let s = c .before .before .before .before .before .before .before .before .before in
-    let l = c .before .before .before .before .loop in
-    let e : l .len ≡ suc (l .len - 1) = omega arith in
-    let left = turns-left (now (s .args .steps)) (s .args .n) (s .pre .0) (s .pre .1 .0) (s .pre .1 .1 .0) (l .stack) (l .hits) (l .len) (l .turns) (l .len - 1) (l .inv) e in
-    omega (arith, left .0)
+loop-less c = let t = turn-in (c .before .before .before) in omega (arith, t .left)
 
 loop-again : tie.Need-loop-again Inv-loop μ-loop
 loop-again c =
     let s = c .before .before .before .before .before .before .before .before .before in
     let l = c .before .before .before .before .loop in
-    let e : l .len ≡ suc (l .len - 1) = omega arith in
-    popping-next (now (s .args .steps)) (s .args .n) (s .pre .0) (s .pre .1 .0) (s .pre .1 .1 .0) (l .stack) (l .hits) (l .len) (l .turns) (l .len - 1) (l .inv) e
-    _ _ _ (c .meet .ensures .0) (c .meet .ensures .1)
+    popping-next (now (s .args .steps)) (s .args .n) (s .pre .0) (s .pre .1 .0) (s .pre .1 .1 .0)
+    (l .stack) (l .hits) (l .len) (l .turns) (l .len - 1) (l .inv) (omega arith) _ _ _ (c .meet .ensures .0) (c .meet .ensures .1)
 
 returns : tie.Need-returns Inv-loop μ-loop
 returns c =

@@ -3,7 +3,7 @@ use native.Mathlib.Omega.{arith}
 use Rattle.plan.specs.Stored.{stored-steps}
 use Rattle.ir_graph.proofs.Bounds.{length-steps}
 use Rattle.ir_graph.proofs.FirstPass.{zeros}
-use Rattle.ir_graph.proofs.Outs.{producer-there, out-edges}
+use Rattle.ir_graph.proofs.Outs.{out-edges}
 use Rattle.ir_graph.proofs.ir_graph.build_ir_traversal_graph.Statement.{statement}
 use Rattle.ir_graph.proofs.ir_graph.build_ir_traversal_graph.Tie as tie
 
@@ -18,9 +18,7 @@ note-producers-requires c κs =
     let s = c .before .before .before .before .before .before .before .before .before .before .before in
     let g = c .before .before .grow .ensures in (
       g .few-edges,
-      λ k h.
-          let l = producer-there (stored-steps (now (s .args .steps)) (s .args .n)) (s .pre .1 .0) _ _ _ _ (g .edges-are) k h in
-          omega (arith, l, length-steps (now (s .args .steps)) (s .args .n), s .pre .0),
+      λ k h. omega (arith, g .producer-there k h, length-steps (now (s .args .steps)) (s .args .n), s .pre .0),
     )
 
 returns : tie.Need-returns
