@@ -30,7 +30,7 @@ opened ps past n = if is-cache ps n then leb (times n (named ps)) (times n past)
 abbrev pub Counted : List Step → List ℕ → List ℕ → Type 0
 Counted ps past waiting = (w : ℕ → ℕ) → sum w past + sum w waiting ≡ sum w (sinks ps) + followed w ps (opened ps past)
 
-abbrev pub follow : List Step → List ℕ → ℕ → List ℕ
+abbrev follow : List Step → List ℕ → ℕ → List ℕ
 follow ps past n = following ps (popped ps) past n
 
 -- One place more --------------------------------------------------------------------------------------------------------------------

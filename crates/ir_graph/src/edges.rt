@@ -7,7 +7,7 @@ ghost use Rattle.ir_graph.specs.Edges.{made, edges-of, Linked};
 use crate::sizes::size_256;
 use crate::sizes::size_288;
 
-// The edge number e.
+// The edge number e, from `input` into the slot k of the step.
 fn make_edge(
     consumer: &mut [u8; 256],
     slot: &mut [u8; 256],

@@ -52,7 +52,7 @@ pub struct Graph {
     pub edges: usize,
 }
 
-// Along the list, which grows behind the places gone through. `hits` are those that the first pass counted, and are used up.
+// Along the list, which grows at its end until every place is gone through. `hits` are those that the first pass counted; they are used up.
 fn grow(
     steps: &[u8; 1024],
     n: usize,
@@ -77,6 +77,7 @@ fn grow(
     while i < len {
         let current = places[i];
         let start = len;
+        // a Cache's is written at each of its places: that of the last, where its edges are made, stays
         in_edges[current as usize] = edges as u8;
         len = follow(steps, current as usize, places, start, hits);
         edges = link(current, places, start, len, consumer, slot, producer, edges);

@@ -1,4 +1,4 @@
-// The length of an array, which its type says, as a fact for proofs. Nothing is left of these calls in the compiled code.
+// The length of an array, which its type says, as a fact for proofs. These functions do nothing.
 ghost use mathlib.Core.Path.{_≡_};
 ghost use lib.ListN.{length};
 

@@ -1,7 +1,7 @@
 use denote.Ref.{now}
 use native.Mathlib.Omega.{arith}
-use Rattle.ir_graph.proofs.Linking.{edge-more}
 use borrow.Author.Needs.{needs}
+use Rattle.ir_graph.proofs.Linking.{edge-more}
 use Rattle.ir_graph.proofs.edges.make_edge.Statement.{statement}
 use Rattle.ir_graph.proofs.edges.make_edge.Tie as tie
 

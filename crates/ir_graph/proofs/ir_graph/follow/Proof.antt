@@ -2,11 +2,11 @@ use mathlib.Core.Path.{sym, _∙_}
 use denote.Ref.{now}
 use native.Mathlib.Omega.{arith}
 use borrow.Author.Tests.{not-true, not-false}
+use borrow.Author.Needs.{needs}
 use Rattle.claims.proofs.Counts.{T-of}
 use Rattle.ir_graph.specs.Turns.{cached}
 use Rattle.ir_graph.proofs.Pushing.{pushed-none}
 use Rattle.ir_graph.proofs.Turning.{other-follows, other-used, cache-used, last-follows, more-follow}
-use borrow.Author.Needs.{needs}
 use Rattle.ir_graph.proofs.ir_graph.follow.Statement.{statement}
 use Rattle.ir_graph.proofs.ir_graph.follow.Tie as tie
 

@@ -2,9 +2,9 @@ use mathlib.Core.Path.{sym, _∙_}
 use denote.Ref.{now}
 use native.Mathlib.Omega.{arith}
 use borrow.Author.Tests.{not-true, not-false}
+use borrow.Author.Needs.{needs}
 use Rattle.ir_graph.proofs.Pushing.{pushed-none, pushed-one}
 use Rattle.ir_graph.proofs.Turning.{a-root, no-root}
-use borrow.Author.Needs.{needs}
 use Rattle.ir_graph.proofs.roots.push_root.Statement.{statement}
 use Rattle.ir_graph.proofs.roots.push_root.Tie as tie
 

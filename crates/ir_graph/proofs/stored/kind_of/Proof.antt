@@ -1,7 +1,7 @@
 use mathlib.Core.Path.{_∙_}
 use denote.Ref.{now}
-use Rattle.ir_graph.proofs.Inputs.{stored-kind}
 use borrow.Author.Needs.{needs}
+use Rattle.ir_graph.proofs.Inputs.{stored-kind}
 use Rattle.ir_graph.proofs.stored.kind_of.Statement.{statement}
 use Rattle.ir_graph.proofs.stored.kind_of.Tie as tie
 

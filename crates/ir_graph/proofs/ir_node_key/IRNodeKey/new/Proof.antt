@@ -1,12 +1,12 @@
 use mathlib.Core.Path.{sym, _∙_}
 use denote.Ref.{now}
 use borrow.Author.Tests.{not-true, not-false}
+use borrow.Author.Needs.{needs}
 use Rattle.plan.specs.Stored.{stored-step}
 use Rattle.ir_graph.proofs.NodeKey.{other-key, cache-key}
-use borrow.Author.Needs.{needs}
+use Rattle.ir_graph.proofs.ir_node_key.IRNodeKey.new.Reads as reads
 use Rattle.ir_graph.proofs.ir_node_key.IRNodeKey.new.Statement.{statement}
 use Rattle.ir_graph.proofs.ir_node_key.IRNodeKey.new.Tie as tie
-use Rattle.ir_graph.proofs.ir_node_key.IRNodeKey.new.Reads as reads
 
 is-cache-requires : tie.Need-is-cache-requires
 is-cache-requires c κs = search needs
