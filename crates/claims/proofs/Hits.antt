@@ -22,7 +22,7 @@ use Rattle.claims.proofs.Reached.{followed, followed-le, followed-none,
 
 -- Standing in a list ------------------------------------------------------------------------------------------------------------
 
-among-times : (n : ℕ) (l : List ℕ) → T (among n l) → 1 ≤ times n l
+pub among-times : (n : ℕ) (l : List ℕ) → T (among n l) → 1 ≤ times n l
 unfolding any? sum
 among-times n [] t = absurd t
 among-times n (x ∷ l) t = by (eqb n x) t (among-times n l)
@@ -31,7 +31,7 @@ among-times n (x ∷ l) t = by (eqb n x) t (among-times n l)
     by true t rec = omega arith
     by false t rec = omega (arith, rec t)
 
-times-among : (n : ℕ) (l : List ℕ) → 1 ≤ times n l → T (among n l)
+pub times-among : (n : ℕ) (l : List ℕ) → 1 ≤ times n l → T (among n l)
 unfolding any? sum
 times-among n [] h = absurd (not-suc-le-zero h)
 times-among n (x ∷ l) h = by (eqb n x) h (times-among n l)
@@ -43,7 +43,7 @@ times-among n (x ∷ l) h = by (eqb n x) h (times-among n l)
 -- The pass ----------------------------------------------------------------------------------------------------------------------
 
 -- what is popped and what waits: the roots, and the inputs of what is popped
-abbrev Counted : List Step → List ℕ → List ℕ → Type 0
+abbrev pub Counted : List Step → List ℕ → List ℕ → Type 0
 Counted ps met stack = (w : ℕ → ℕ) → sum w met + sum w stack ≡ sum w (sinks ps) + followed w ps (λ n. among n met)
 
 module _ (ps : List Step) (plan : Plan ps) where
@@ -64,7 +64,7 @@ module _ (ps : List Step) (plan : Plan ps) where
           absurd (omega (arith, f tt, g tt, c (only n), followed-le (only n) ps (λ m. among m met), times-same n stack))
       by false false f g = omega arith
 
-  counted-next : (met stack : List ℕ) (n : ℕ) → n < length ps → Counted ps met (n ∷ stack) → Counted ps (met ++ (n ∷ [])) (reverse (pushes ps met n) ++ stack)
+  pub counted-next : (met stack : List ℕ) (n : ℕ) → n < length ps → Counted ps met (n ∷ stack) → Counted ps (met ++ (n ∷ [])) (reverse (pushes ps met n) ++ stack)
   unfolding sum
   counted-next met stack n h c w =
       let ms = pushes ps met n in

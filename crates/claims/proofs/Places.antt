@@ -23,11 +23,11 @@ use Rattle.claims.proofs.Hits.{hits-named}
 use Rattle.claims.proofs.Edges.{outs, intos, same-some}
 
 -- have n's inputs followed, once `past` is gone through? A Cache's follow at its last place
-opened : List Step → List ℕ → ℕ → Bool
+pub opened : List Step → List ℕ → ℕ → Bool
 opened ps past n = if is-cache ps n then leb (times n (named ps)) (times n past) else leb 1 (times n past)
 
 -- the places gone through and those that wait: the roots, and the inputs of the steps opened
-abbrev Counted : List Step → List ℕ → List ℕ → Type 0
+abbrev pub Counted : List Step → List ℕ → List ℕ → Type 0
 Counted ps past waiting = (w : ℕ → ℕ) → sum w past + sum w waiting ≡ sum w (sinks ps) + followed w ps (opened ps past)
 
 abbrev follow : List Step → List ℕ → ℕ → List ℕ
@@ -70,7 +70,7 @@ module _ (ps : List Step) (plan : Plan ps) where
             (λ k. le→leb (times n (named ps)) (1 + times n past) (omega (arith, h tt, eqb→eq (times n past + 1) (hits (popped ps) n) k)))
         by false z h = T-eq (leb 1 (1 + times n past)) true (λ k. tt) (λ k. le→leb 1 (1 + times n past) (omega arith))
 
-    counted-next : n < length ps → Counted ps (n ∷ past) (ns ++ follow ps past n)
+    pub counted-next : n < length ps → Counted ps (n ∷ past) (ns ++ follow ps past n)
     unfolding sum following
     counted-next h w =
         let next = rw (not-yet, opens-here) at (followed-next w ps (opened ps past) (opened ps (n ∷ past)) n h (λ m k. opened-other ps past m n k)) in
@@ -229,7 +229,7 @@ module _ (ps : List Step) (plan : Plan ps) where
       in-range m false j = absurd (List·Memᴰ·not-nil j)
 
   -- before the first place nothing is opened: a Cache is named
-  none-opened : (n : ℕ) → opened ps [] n ≡ false
+  pub none-opened : (n : ℕ) → opened ps [] n ≡ false
   unfolding opened sum
   none-opened n = by (is-cache ps n) (λ t. cache-used ps plan n t)
     where

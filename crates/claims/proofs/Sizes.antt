@@ -27,7 +27,7 @@ use Rattle.claims.proofs.Places.{graph-ordered}
 
 -- The graph ---------------------------------------------------------------------------------------------------------------------------
 
-few-sinks : (ps : List Step) → length (sinks ps) ≤ length ps
+pub few-sinks : (ps : List Step) → length (sinks ps) ≤ length ps
 unfolding sinks
 few-sinks ps = simp length-map (omega (arith, select-le (λ (n, s). same-ir (s .kind) IR.Sink) (numbered 0 ps), length-numbered 0 ps))
 

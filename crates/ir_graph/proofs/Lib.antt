@@ -1,0 +1,12 @@
+pub mod Inputs
+pub mod Pushing
+pub mod Turning
+pub mod Linking
+pub mod Bounds
+pub mod FirstPass
+pub mod SecondPass
+pub mod Rows
+pub mod There
+pub mod Graphs
+pub mod Outs
+pub mod NodeKey

@@ -1,0 +1,66 @@
+-- The places, and the ends of the edges, are lines of the sheet.
+use mathlib.Core.Path.{_≡_, sym, ap, _∙_}
+use Prim.Native.Nat.{ℕ, zero, suc, _+_, _≤_, _<_}
+use native.Mathlib.Omega.{arith}
+use mathlib.Core.List.{List, List·Memᴰ}
+use mathlib.Core.Option.{some}
+use lib.ListN.{length, getD, take, length-take}
+use lib.Seq.{getD-take}
+use Rattle.plan.specs.Lists.{times}
+use Rattle.plan.specs.Sheet.{Step, no-step, step-at}
+use Rattle.plan.specs.Faults.{named}
+use Rattle.plan.specs.Graph.{graph, sinks}
+use Rattle.plan.specs.Visit.{no-edge}
+use Rattle.plan.specs.StoredLaws.{table-at}
+use Rattle.claims.proofs.Counts.{mem-at, mem-concat, times-of, stands-in, only}
+use Rattle.claims.proofs.Edges.{same-some}
+use Rattle.claims.proofs.StepTable.{has-inputs}
+use Rattle.claims.proofs.Plans.{Plan, root-there, input-there}
+use Rattle.claims.proofs.Places.{graph-ordered}
+use Rattle.ir_graph.specs.Edges.{made, edges-of}
+use Rattle.ir_graph.proofs.Linking.{length-edges}
+
+edge-there : (c s p : List ℕ) (e k : ℕ) → k < e → getD (edges-of c s p e) k no-edge ≡ made (getD c k 0) (getD s k 0) (getD p k 0)
+unfolding edges-of
+edge-there c s p e k h = table-at (λ j. made (getD c j 0) (getD s j 0) (getD p j 0)) e k no-edge h
+
+module _ (ps : List Step) (c s p : List ℕ) (e : ℕ) (edges : edges-of c s p e ≡ graph ps .1) where
+  pub length-graph : length (graph ps .1) ≡ e
+  length-graph = ap length (sym edges) ∙ length-edges c s p e
+
+  pub edge-at : (k : ℕ) → k < e → getD (graph ps .1) k no-edge ≡ made (getD c k 0) (getD s k 0) (getD p k 0)
+  edge-at k h = rw (← edges) (edge-there c s p e k h)
+
+  module _ (plan : Plan ps) (k : ℕ) (h : k < e) where
+    -- an edge comes from the input that its slot names
+    from-input : (getD s k 0 < length (step-at ps (getD c k 0) .inputs)) × (some (getD p k 0) ≡ some (getD (step-at ps (getD c k 0) .inputs) (getD s k 0) 0))
+    from-input = rw (edge-at k h) at (graph-ordered ps plan .made (getD (graph ps .1) k no-edge) (mem-at (graph ps .1) k no-edge (omega (arith, length-graph))))
+
+    pub slot-there : getD s k 0 < length (step-at ps (getD c k 0) .inputs)
+    slot-there = from-input .0
+
+    pub consumer-there : getD c k 0 < length ps
+    consumer-there = has-inputs ps (getD c k 0) (omega (arith, slot-there))
+
+    pub producer-there : getD p k 0 < length ps
+    producer-there =
+        let inputs = step-at ps (getD c k 0) .inputs in
+        rw (same-some (from-input .1)) (input-there ps plan (getD c k 0) (getD inputs (getD s k 0) 0) (mem-at inputs (getD s k 0) 0 slot-there))
+
+module _ (ps : List Step) (plan : Plan ps) where
+  -- a root or an input
+  line-there : (m : ℕ) → 1 ≤ times m (sinks ps) + times m (named ps) → m < length ps
+  unfolding named
+  line-there m h = by (times m (sinks ps)) (λ l. root-there ps plan m (stands-in m (sinks ps) l)) h
+    where
+      by : (x : ℕ) → (1 ≤ x → m < length ps) → 1 ≤ x + times m (named ps) → m < length ps
+      by zero f h =
+          let (i, l, j) = mem-concat (λ (s : Step). s .inputs) ps no-step m (stands-in m (named ps) (omega arith)) in
+          input-there ps plan i m j
+      by (suc x) f h = f (omega arith)
+
+  pub place-there : (places : List ℕ) (len : ℕ) → len ≤ length places → take len places ≡ graph ps .0 → (k : ℕ) → k < len → getD places k 0 < length ps
+  place-there places len l e k h =
+      let m = getD places k 0 in
+      let i : List·Memᴰ m (take len places) = rw (getD-take len places k 0 h) at (mem-at (take len places) k 0 (simp length-take (omega arith))) in
+      line-there m (omega (arith, times-of m (graph ps .0) (rw e at i), graph-ordered ps plan .placed-all (only m)))

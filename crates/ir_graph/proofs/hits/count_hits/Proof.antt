@@ -1,0 +1,91 @@
+use denote.Ref.{now}
+use Prim.Native.Nat.{ℕ, _-_, _≤_}
+use native.Mathlib.Omega.{arith}
+use borrow.Author.Needs.{needs}
+use lib.ListN.{getD, replicate, length-replicate}
+use Rattle.plan.specs.Graph.{most-places}
+use Rattle.plan.specs.Stored.{stored-steps}
+use Rattle.ir_graph.proofs.FirstPass.{Popping, Turn, begins, ended, turn, popping-next}
+use Rattle.ir_graph.proofs.hits.count_hits.Statement.{statement}
+use Rattle.ir_graph.proofs.hits.count_hits.Tie as tie
+
+abbrev Inv-loop : tie.InvT-loop
+Inv-loop steps n hits₀ stack₀ len₀ turns₀ hits stack len turns = Popping (stored-steps steps n) stack hits len turns
+
+abbrev μ-loop : tie.MeasureT-loop
+μ-loop steps n hits₀ stack₀ len₀ turns₀ hits stack len turns = most-places (stored-steps steps n) - turns
+
+small : (c : tie.In-loop Inv-loop μ-loop) → c .before .before .before .before .before .before .args .n ≤ 32
+small c = c .before .before .before .before .before .before .pre .0
+
+turn-in : (c : tie.In-loop Inv-loop μ-loop)
+    → Turn (now (c .before .before .before .before .before .before .args .steps)) (c .before .before .before .before .before .before .args .n) (c .before .loop .hits) (c .before .loop .len - 1) (c .before .loop .turns)
+    (getD (c .before .loop .stack) (c .before .loop .len - 1) 0)
+turn-in c =
+    let s = c .before .before .before .before .before .before in
+    let l = c .before .loop in
+    turn (now (s .args .steps)) (s .args .n) (s .pre .0) (s .pre .1 .0) (s .pre .1 .1 .0)
+    (l .stack) (l .hits) (l .len) (l .turns) (l .len - 1) (l .inv) (omega arith)
+
+size-32-requires : tie.Need-size-32-requires Inv-loop μ-loop
+size-32-requires c κs = search needs
+
+push-roots-requires : tie.Need-push-roots-requires Inv-loop μ-loop
+push-roots-requires c κs = search needs
+
+loop-holds : tie.Need-loop-holds Inv-loop μ-loop
+loop-holds c =
+    let s = c .before .before .before .before in
+    begins (now (s .args .steps)) (s .args .n) (s .pre .0) (s .pre .1 .0) (s .pre .1 .1 .0)
+    _ (replicate 288 0) (now (s .args .hits)) _ (length-replicate {A = ℕ} 288 0) (c .before .before .size-32 .ensures) (s .pre .1 .1 .1) (c .push-roots .ensures)
+
+sub-len : tie.Need-sub-len Inv-loop μ-loop
+sub-len c = search needs
+
+array-read-i : tie.Need-array-read-i Inv-loop μ-loop
+array-read-i c = search needs
+
+cast-i : tie.Need-cast-i Inv-loop μ-loop
+cast-i c = let t = turn-in c in omega (arith, t .there, small c)
+
+meet-requires : tie.Need-meet-requires Inv-loop μ-loop
+meet-requires c κs =
+    let t = turn-in (c .before .before) in
+    (omega (arith, t .there, small (c .before .before)), (t .formed, (t .hit, t .room)))
+
+add-turns : tie.Need-add-turns Inv-loop μ-loop
+add-turns c = let t = turn-in (c .before .before .before) in omega (arith, t .few)
+
+loop-less : tie.Need-loop-less Inv-loop μ-loop
+loop-less c = let t = turn-in (c .before .before .before) in omega (arith, t .left)
+
+loop-again : tie.Need-loop-again Inv-loop μ-loop
+loop-again c =
+    let s = c .before .before .before .before .before .before .before .before .before in
+    let l = c .before .before .before .before .loop in
+    popping-next (now (s .args .steps)) (s .args .n) (s .pre .0) (s .pre .1 .0) (s .pre .1 .1 .0)
+    (l .stack) (l .hits) (l .len) (l .turns) (l .len - 1) (l .inv) (omega arith) _ _ _ (c .meet .ensures .0) (c .meet .ensures .1)
+
+returns : tie.Need-returns Inv-loop μ-loop
+returns c =
+    let s = c .before .before .before .before .before .before in
+    let l = c .before .loop in
+    ended (now (s .args .steps)) (s .args .n) (s .pre .0) (s .pre .1 .0) (s .pre .1 .1 .0) (l .stack) (l .hits) (l .len) (l .turns) (l .inv) (omega arith)
+
+pub count-hits-spec : {M : Type 1} → statement M
+count-hits-spec =
+    tie.close
+    (tie.spec
+    Inv-loop
+    μ-loop
+    size-32-requires
+    push-roots-requires
+    loop-holds
+    sub-len
+    array-read-i
+    cast-i
+    meet-requires
+    add-turns
+    loop-less
+    loop-again
+    returns)

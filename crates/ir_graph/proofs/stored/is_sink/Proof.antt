@@ -1,0 +1,15 @@
+use borrow.Author.Needs.{needs}
+use Rattle.ir_graph.proofs.stored.is_sink.Statement.{statement}
+use Rattle.ir_graph.proofs.stored.is_sink.Tie as tie
+
+kind-of-requires : tie.Need-kind-of-requires
+kind-of-requires c κs = search needs
+
+number-requires : tie.Need-number-requires
+number-requires c κs = search needs
+
+returns : tie.Need-returns
+returns c = rw (c .number .ensures, c .before .kind-of .ensures)
+
+pub is-sink-spec : {M : Type 1} → statement M
+is-sink-spec = tie.close (tie.spec kind-of-requires number-requires returns)

@@ -1,0 +1,7 @@
+pub mod Pushed
+pub mod Turns
+pub mod Hits
+pub mod Edges
+pub mod Built
+pub mod Outs
+pub mod NodeKey
