@@ -44,3 +44,4 @@ pub mod PrintableStart
 pub mod WithinLimits
 pub mod Demand3
 pub mod Demand1
+pub mod EnoughFuel
