@@ -1,3 +1,4 @@
 pub mod EdgeLaws
 pub mod StoreLaws
 pub mod UnlinkLaws
+pub mod RuleLaws
