@@ -1,0 +1,2 @@
+// From the bytes of a sheet to its plan: refusals 2 to 9 of document 01.
+pub mod number; // number.rt: a number of a line
