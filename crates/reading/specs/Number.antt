@@ -49,3 +49,8 @@ number-of a b c d =
     else if ltb 10 c then Bad
     else if eqb d 10 then (if ltb 255 (a * 100 + b * 10 + c) then Bad else Value (a * 100 + b * 10 + c) 3)
     else Bad
+
+-- how many bytes a number is written with
+abbrev pub width : Number → ℕ
+width (Value v n) = n
+width Bad = 0

@@ -1,5 +1,4 @@
 use Rattle.reading.proofs.Numbers.{digit-here, digit-past}
-use borrow.Author.Tests.{lt-leb, le-leb, le-ltb, lt-ltb}
 use native.Mathlib.Omega.{arith}
 use borrow.Author.Needs.{needs}
 use Rattle.reading.proofs.number.digit_at.Statement.{statement}

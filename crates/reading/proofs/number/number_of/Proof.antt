@@ -12,22 +12,22 @@ use Rattle.reading.proofs.number.wide.Reads as wide-reads
 -- src/number.rt:52:9
 returns : tie.Need-returns
 unfolding number-of
-returns c = simp (number-of, le-leb _ _ (c .if1 .taken), le-ltb _ _ (c .if1 .taken))
+returns c = simp (number-of, le-leb _ _ (c .if1 .taken))
 
 -- src/number.rt:55:9
 returns-2 : tie.Need-returns-2
 unfolding number-of
-returns-2 c = simp (number-of, eq-eqb _ _ (c .if2 .taken), lt-ltb _ _ (c .before .if1 .left), lt-leb _ _ (c .before .if1 .left))
+returns-2 c = simp (number-of, eq-eqb _ _ (c .if2 .taken), lt-leb _ _ (c .before .if1 .left))
 
 -- src/number.rt:58:9
 returns-3 : tie.Need-returns-3
 unfolding number-of
-returns-3 c = simp (number-of, lt-ltb _ _ (c .if3 .taken), lt-leb _ _ (c .if3 .taken), ne-eqb _ _ (c .before .if2 .left), lt-ltb _ _ (c .before .before .if1 .left), lt-leb _ _ (c .before .before .if1 .left))
+returns-3 c = simp (number-of, lt-ltb _ _ (c .if3 .taken), ne-eqb _ _ (c .before .if2 .left), lt-leb _ _ (c .before .before .if1 .left))
 
 -- src/number.rt:61:9
 returns-4 : tie.Need-returns-4
 unfolding number-of
-returns-4 c = simp (number-of, eq-eqb _ _ (c .if4 .taken), le-leb _ _ (c .before .if3 .left), le-ltb _ _ (c .before .if3 .left), ne-eqb _ _ (c .before .before .if2 .left), lt-ltb _ _ (c .before .before .before .if1 .left), lt-leb _ _ (c .before .before .before .if1 .left))
+returns-4 c = simp (number-of, eq-eqb _ _ (c .if4 .taken), le-ltb _ _ (c .before .if3 .left), ne-eqb _ _ (c .before .before .if2 .left), lt-leb _ _ (c .before .before .before .if1 .left))
 
 -- src/number.rt:64:30
 mul-t7 : tie.Need-mul-t7
@@ -40,17 +40,17 @@ add-t8 c = search needs
 -- src/number.rt:64:9
 returns-5 : tie.Need-returns-5
 unfolding number-of
-returns-5 c = simp (number-of, eq-eqb _ _ (c .if5 .taken), ne-eqb _ _ (c .before .if4 .left), le-leb _ _ (c .before .before .if3 .left), le-ltb _ _ (c .before .before .if3 .left), ne-eqb _ _ (c .before .before .before .if2 .left), lt-ltb _ _ (c .before .before .before .before .if1 .left), lt-leb _ _ (c .before .before .before .before .if1 .left))
+returns-5 c = simp (number-of, eq-eqb _ _ (c .if5 .taken), ne-eqb _ _ (c .before .if4 .left), le-ltb _ _ (c .before .before .if3 .left), ne-eqb _ _ (c .before .before .before .if2 .left), lt-leb _ _ (c .before .before .before .before .if1 .left))
 
 -- src/number.rt:67:9
 returns-6 : tie.Need-returns-6
 unfolding number-of
-returns-6 c = simp (number-of, lt-ltb _ _ (c .if6 .taken), lt-leb _ _ (c .if6 .taken), ne-eqb _ _ (c .before .if5 .left), ne-eqb _ _ (c .before .before .if4 .left), le-leb _ _ (c .before .before .before .if3 .left), le-ltb _ _ (c .before .before .before .if3 .left), ne-eqb _ _ (c .before .before .before .before .if2 .left), lt-ltb _ _ (c .before .before .before .before .before .if1 .left), lt-leb _ _ (c .before .before .before .before .before .if1 .left))
+returns-6 c = simp (number-of, lt-ltb _ _ (c .if6 .taken), ne-eqb _ _ (c .before .if5 .left), ne-eqb _ _ (c .before .before .if4 .left), le-ltb _ _ (c .before .before .before .if3 .left), ne-eqb _ _ (c .before .before .before .before .if2 .left), lt-ltb _ _ (c .before .before .before .before .before .if1 .left), lt-leb _ _ (c .before .before .before .before .before .if1 .left))
 
 -- src/number.rt:70:9
 returns-7 : tie.Need-returns-7
 unfolding number-of
-returns-7 c = simp (number-of, ne-eqb _ _ (c .if7 .taken), le-leb _ _ (c .before .if6 .left), le-ltb _ _ (c .before .if6 .left), ne-eqb _ _ (c .before .before .if5 .left), ne-eqb _ _ (c .before .before .before .if4 .left), le-leb _ _ (c .before .before .before .before .if3 .left), le-ltb _ _ (c .before .before .before .before .if3 .left), ne-eqb _ _ (c .before .before .before .before .before .if2 .left), lt-ltb _ _ (c .before .before .before .before .before .before .if1 .left), lt-leb _ _ (c .before .before .before .before .before .before .if1 .left))
+returns-7 c = simp (number-of, ne-eqb _ _ (c .if7 .taken), le-ltb _ _ (c .before .if6 .left), ne-eqb _ _ (c .before .before .if5 .left), ne-eqb _ _ (c .before .before .before .if4 .left), le-ltb _ _ (c .before .before .before .before .if3 .left), ne-eqb _ _ (c .before .before .before .before .before .if2 .left), lt-ltb _ _ (c .before .before .before .before .before .before .if1 .left), lt-leb _ _ (c .before .before .before .before .before .before .if1 .left))
 
 -- src/number.rt:72:13
 wide-requires : tie.Need-wide-requires
