@@ -1,3 +1,4 @@
 // From the bytes of a sheet to its plan: refusals 2 to 9 of document 01.
 pub mod line; // line.rt: the numbers of a line
 pub mod number; // number.rt: a number of a line
+pub mod tables; // tables.rt: what each kind of line may have
