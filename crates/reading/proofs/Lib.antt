@@ -2,3 +2,4 @@ pub mod Numbers
 pub mod Fields
 pub mod Spans
 pub mod Rows
+pub mod Stores
