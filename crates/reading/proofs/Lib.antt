@@ -3,3 +3,4 @@ pub mod Fields
 pub mod Spans
 pub mod Rows
 pub mod Stores
+pub mod Checks

@@ -4,10 +4,58 @@ use Prim.Native.Nat.{ℕ, suc, _+_, _*_, _<_, _≤_}
 use mathlib.Core.Bool.{true}
 use mathlib.Core.List.{List, [], _∷_}
 use mathlib.Core.Option.{Option}
+use lib.Dec.{eqb}
 use lib.ListN.{getD, length}
 use lib.Seq.{paste}
+use Rattle.plan.specs.declared.ir.IR.{IR}
+use Rattle.plan.specs.Kinds.{same-ir}
+use Rattle.plan.specs.Lists.{if_then_else_, sum}
+use Rattle.plan.specs.Sheet.{Sheet, Step, Line, Outcome, refused, done, read-line}
 use Rattle.plan.specs.Stored.{stored-exprs, stored-steps}
+use Rattle.reading.specs.Line.{line, ended}
+use Rattle.reading.specs.declared.lines.Tally.{Tally}
+use Rattle.reading.specs.declared.lines.Reading.{Reading}
+use Rattle.reading.specs.declared.lines.Reading.the-variants.{Taken, Refused}
 
 -- d, with the n bytes from at on replaced by the first n of v
 unfoldable pub pasted : List ℕ → ℕ → List ℕ → ℕ → List ℕ
 pasted d at v n = paste d at v n
+
+-- the E lines, agg entries and P lines taken so far
+abbrev pub sheet-of : List ℕ → List ℕ → Tally → Sheet
+sheet-of es ps t = record { exprs = stored-exprs es (t .exprs); steps = stored-steps ps (t .steps) }
+
+-- the n3 entries of GroupBy lines
+unfoldable pub agg-entries : List Step → ℕ
+agg-entries ss = sum (λ (s : Step). if same-ir (s .kind) IR.GroupBy then length (s .aggs) else 0) ss
+
+abbrev pub aggs-of : ℕ → ℕ → ℕ
+aggs-of kind n3 = if eqb kind 7 then n3 else 0
+
+-- the counts in the bytes of an E line and of a P line
+abbrev pub children-of : List ℕ → ℕ → ℕ
+children-of es i = getD es (i * 16 + 12) 0
+
+abbrev pub count-of : ℕ → List ℕ → ℕ → ℕ
+count-of k ps i = getD ps (i * 32 + k) 0
+
+-- what holds of the bytes, whatever lines they hold
+pub record Sound (es ps : List ℕ) (t : Tally) : Type 0 where
+  pub children : (i : ℕ) → i < t .exprs → children-of es i ≤ 8
+  pub inputs : (i : ℕ) → i < t .steps → count-of 4 ps i ≤ 8
+  pub firsts : (i : ℕ) → i < t .steps → count-of 5 ps i ≤ 8
+  pub seconds : (i : ℕ) → i < t .steps → count-of 6 ps i ≤ 8
+  pub aggs : t .aggs ≡ agg-entries (stored-steps ps (t .steps))
+  pub few-exprs : t .exprs + t .aggs ≤ 128
+  pub few-steps : t .steps ≤ 32
+
+-- a line was read: es, ps before, es′, ps′ after it; s are the bytes at whose front the line o stands
+pub record Line-taken (o : Option Line) (s es ps es′ ps′ : List ℕ) (t t′ : Tally) (n : ℕ) : Type 0 where
+  pub taken : read-line o (sheet-of es ps t) ≡ done (sheet-of es′ ps′ t′)
+  pub sound : Sound es′ ps′ t′
+  pub whole : ended s ≡ true
+  pub long : n ≡ suc (length (line s))
+
+abbrev pub Line-read : Option Line → List ℕ → List ℕ → List ℕ → List ℕ → List ℕ → Tally → Reading → Type 0
+Line-read o s es ps es′ ps′ t (Refused k) = read-line o (sheet-of es ps t) ≡ refused k
+Line-read o s es ps es′ ps′ t (Taken t′ n) = Line-taken o s es ps es′ ps′ t t′ n
