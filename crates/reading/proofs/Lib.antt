@@ -4,3 +4,4 @@ pub mod Spans
 pub mod Rows
 pub mod Stores
 pub mod Checks
+pub mod Whole

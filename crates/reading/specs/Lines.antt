@@ -10,11 +10,12 @@ use lib.Seq.{paste}
 use Rattle.plan.specs.declared.ir.IR.{IR}
 use Rattle.plan.specs.Kinds.{same-ir}
 use Rattle.plan.specs.Lists.{if_then_else_, sum}
-use Rattle.plan.specs.Sheet.{Sheet, Step, Line, Outcome, refused, done, read-line}
+use Rattle.plan.specs.Sheet.{Sheet, Step, Line, Outcome, refused, done, read-line, parts, read-lines, no-lines}
 use Rattle.plan.specs.Stored.{stored-exprs, stored-steps}
 use Rattle.reading.specs.Line.{line, ended}
 use Rattle.reading.specs.declared.lines.Tally.{Tally}
 use Rattle.reading.specs.declared.lines.Reading.{Reading}
+use Rattle.reading.specs.declared.lines.Lines.{Lines}
 use Rattle.reading.specs.declared.lines.Reading.the-variants.{Taken, Refused}
 
 -- d, with the n bytes from at on replaced by the first n of v
@@ -59,3 +60,12 @@ pub record Line-taken (o : Option Line) (s es ps es′ ps′ : List ℕ) (t t′
 abbrev pub Line-read : Option Line → List ℕ → List ℕ → List ℕ → List ℕ → List ℕ → Tally → Reading → Type 0
 Line-read o s es ps es′ ps′ t (Refused k) = read-line o (sheet-of es ps t) ≡ refused k
 Line-read o s es ps es′ ps′ t (Taken t′ n) = Line-taken o s es ps es′ ps′ t t′ n
+
+-- all lines of s were read
+pub record All-taken (s es ps : List ℕ) (t : Tally) : Type 0 where
+  pub taken : read-lines (parts 10 s) no-lines ≡ done (sheet-of es ps t)
+  pub sound : Sound es ps t
+
+abbrev pub Lines-read : List ℕ → List ℕ → List ℕ → Lines → Type 0
+Lines-read s es ps (Lines.Refused k) = read-lines (parts 10 s) no-lines ≡ refused k
+Lines-read s es ps (Lines.Read t) = All-taken s es ps t

@@ -4,8 +4,8 @@ ghost use mathlib.Core.List.{List, [], _∷_};
 ghost use Prim.Native.Nat.{ℕ, _+_, _*_, _≤_, _<_};
 ghost use lib.ListN.{length, set};
 ghost use Rattle.plan.specs.Sheet.{lettered};
-ghost use Rattle.reading.specs.Line.{numbers-of};
-ghost use Rattle.reading.specs.Lines.{pasted, aggs-of, Sound, Line-read};
+ghost use Rattle.reading.specs.Line.{numbers-of, line-here};
+ghost use Rattle.reading.specs.Lines.{pasted, aggs-of, Sound, Line-read, Lines-read};
 
 // How many E lines, agg entries and P lines were taken.
 pub struct Tally {
@@ -122,4 +122,49 @@ fn read_step(s: &[u8], steps: &mut [u8; 1024], t: Tally) -> Reading
         steps: t.steps + 1,
     };
     Reading::Taken(next, f.len + 1)
+}
+
+// The line at the front of the bytes.
+fn read_line(s: &[u8], exprs: &mut [u8; 2048], steps: &mut [u8; 1024], t: Tally) -> Reading
+    requires { ⌜ (0 < length (now s)) × Sound (now exprs) (now steps) t ⌝ }
+    ensures { λ r. ⌜ Line-read (line-here (now (s .entry))) (now (s .entry)) (now (exprs .entry)) (now (steps .entry)) (now (exprs .exit)) (now (steps .exit)) t r ⌝ }
+{
+    let letter = s[0];
+    if letter == 69 {
+        return read_expr(&s[1..], exprs, t);
+    }
+    if letter == 80 {
+        return read_step(&s[1..], steps, t);
+    }
+    Reading::Refused(3)
+}
+
+// What all lines come to.
+pub enum Lines {
+    Read(Tally),
+    Refused(u8),
+}
+
+// All lines of a sheet.
+pub fn read_lines(sheet: &[u8], exprs: &mut [u8; 2048], steps: &mut [u8; 1024]) -> Lines
+    ensures { λ r. ⌜ Lines-read (now (sheet .entry)) (now (exprs .exit)) (now (steps .exit)) r ⌝ }
+{
+    let mut t = Tally {
+        exprs: 0,
+        aggs: 0,
+        steps: 0,
+    };
+    let mut rest = sheet;
+    while 0 < rest.len() {
+        match read_line(rest, exprs, steps, t) {
+            Reading::Taken(next, n) => {
+                t = next;
+                rest = &rest[n..];
+            }
+            Reading::Refused(k) => {
+                return Lines::Refused(k);
+            }
+        }
+    }
+    Lines::Read(t)
 }
