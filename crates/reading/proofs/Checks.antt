@@ -20,7 +20,7 @@ use Rattle.plan.specs.Sheet.{Expr, Step, Sheet, Line, E, P, Outcome, refused, d
 use Rattle.plan.specs.Stored.{stored-exprs, stored-steps, stored-expr, stored-step, table}
 use Rattle.reading.specs.Line.{line, ended, line-here, numbers-after, numbers-of, Kept, All-read}
 use Rattle.reading.specs.Tables.{row, row-of, expr-numbers-fit, step-numbers-fit, most-a, most-b, most-c, inputs, exprs, most-aggs, within}
-use Rattle.reading.specs.Lines.{pasted, sheet-of, agg-entries, aggs-of, children-of, count-of, Sound, Line-taken, Line-read}
+use Rattle.reading.specs.Lines.{pasted, sheet-of, agg-entries, aggs-of, Sound, Line-taken, Line-read}
 use Rattle.reading.specs.declared.line.Numbers.{Numbers}
 use Rattle.reading.specs.declared.lines.Tally.{Tally}
 use Rattle.reading.proofs.Spans.{and-left, and-right}

@@ -5,3 +5,5 @@ pub mod Rows
 pub mod Stores
 pub mod Checks
 pub mod Whole
+pub mod Scans
+pub mod Refers

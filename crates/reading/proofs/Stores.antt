@@ -8,7 +8,8 @@ use native.Mathlib.Nat.{suc-add}
 use native.Mathlib.Decide.{ℕ-discrete}
 use Rattle.plan.specs.Sheet.{Expr, Step, expr-of, step-of}
 use Rattle.plan.specs.Stored.{stored-expr, stored-step, stored-exprs, stored-steps, table}
-use Rattle.reading.specs.Lines.{pasted, children-of, count-of}
+use Rattle.reading.specs.Lines.{pasted}
+use Rattle.reading.specs.Held.{children-of, count-of}
 use lib.ListN.{length, getD, take, drop, set, length-set, length-drop, length-append, length-take, take-append-drop, List·getD-append}
 use lib.Seq.{paste-zero, paste-suc, length-paste, take-nil, take-append-le, drop-append-le, drop-at, take-take, drop-drop, getD-take, getD-drop, length-take-le, take-set-le, getD-set-same, ext-getD}
 
@@ -29,7 +30,7 @@ put-done d e at v j n p q = p ∙ rw q
 
 -- What is read afterwards ----------------------------------------------------------------------------------------------------
 
-drop-take : (a m : ℕ) (l : List ℕ) → drop a (take (a + m) l) ≡ take m (drop a l)
+pub drop-take : (a m : ℕ) (l : List ℕ) → drop a (take (a + m) l) ≡ take m (drop a l)
 drop-take zero m l = let e : 0 + m ≡ m = omega arith in rw e
 drop-take (suc a) m [] = ap (drop (suc a)) (take-nil (suc a + m)) ∙ sym (take-nil m)
 drop-take (suc a) m (x ∷ l) = ap (λ n. drop (suc a) (take n (x ∷ l))) (suc-add a m) ∙ drop-take a m l

@@ -1,4 +1,5 @@
 pub mod Number
 pub mod Line
 pub mod Tables
+pub mod Held
 pub mod Lines

@@ -13,6 +13,7 @@ use Rattle.plan.specs.Lists.{if_then_else_, sum}
 use Rattle.plan.specs.Sheet.{Sheet, Step, Line, Outcome, refused, done, read-line, parts, read-lines, no-lines}
 use Rattle.plan.specs.Stored.{stored-exprs, stored-steps}
 use Rattle.reading.specs.Line.{line, ended}
+use Rattle.reading.specs.Held.{children-of, count-of}
 use Rattle.reading.specs.declared.lines.Tally.{Tally}
 use Rattle.reading.specs.declared.lines.Reading.{Reading}
 use Rattle.reading.specs.declared.lines.Lines.{Lines}
@@ -32,13 +33,6 @@ agg-entries ss = sum (λ (s : Step). if same-ir (s .kind) IR.GroupBy then length
 
 abbrev pub aggs-of : ℕ → ℕ → ℕ
 aggs-of kind n3 = if eqb kind 7 then n3 else 0
-
--- the counts in the bytes of an E line and of a P line
-abbrev pub children-of : List ℕ → ℕ → ℕ
-children-of es i = getD es (i * 16 + 12) 0
-
-abbrev pub count-of : ℕ → List ℕ → ℕ → ℕ
-count-of k ps i = getD ps (i * 32 + k) 0
 
 -- what holds of the bytes, whatever lines they hold
 pub record Sound (es ps : List ℕ) (t : Tally) : Type 0 where
