@@ -199,7 +199,7 @@ pub no-steps : (ps : List ℕ) (n : ℕ) → n ≡ 0 → stored-steps ps n ≡ [
 unfolding stored-steps table
 no-steps ps n e = rw e
 
-some-steps : (ps : List ℕ) (n : ℕ) → (n ≡ 0 → ⊥) → empty? (stored-steps ps n) ≡ false
+pub some-steps : (ps : List ℕ) (n : ℕ) → (n ≡ 0 → ⊥) → empty? (stored-steps ps n) ≡ false
 unfolding stored-steps table
 some-steps ps zero h = absurd (h refl)
 some-steps ps (suc n) h = refl

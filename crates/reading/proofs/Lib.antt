@@ -1,5 +1,5 @@
 pub mod Numbers
-pub mod Fields
+pub mod LineFields
 pub mod Spans
 pub mod Rows
 pub mod Stores
@@ -7,3 +7,7 @@ pub mod Checks
 pub mod Whole
 pub mod Scans
 pub mod Refers
+pub mod Names
+pub mod Members
+pub mod Marking
+pub mod Plans

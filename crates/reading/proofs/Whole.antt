@@ -17,7 +17,7 @@ use Rattle.reading.specs.Lines.{sheet-of, agg-entries, Sound, Line-taken
 use Rattle.reading.specs.declared.lines.Tally.{Tally}
 use Rattle.reading.specs.declared.lines.Reading.{Reading}
 use Rattle.reading.specs.declared.lines.Reading.the-variants.{Taken, Refused}
-use Rattle.reading.proofs.Fields.{part-from}
+use Rattle.reading.proofs.LineFields.{part-from}
 
 -- The letter -----------------------------------------------------------------------------------------------------------------
 

@@ -3,3 +3,6 @@ pub mod Line
 pub mod Tables
 pub mod Held
 pub mod Lines
+pub mod Uses
+pub mod Marks
+pub mod Plan

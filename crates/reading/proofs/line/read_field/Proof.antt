@@ -1,7 +1,7 @@
 use native.Mathlib.Omega.{arith}
 use mathlib.Core.Path.{_∙_}
 use denote.Ref.{now}
-use Rattle.reading.proofs.Fields.{field-none, field-end, field-comma, field-broken, width-from}
+use Rattle.reading.proofs.LineFields.{field-none, field-end, field-comma, field-broken, width-from}
 use borrow.Author.Needs.{needs}
 use Rattle.reading.proofs.line.read_field.Statement.{statement}
 use Rattle.reading.proofs.line.read_field.Tie as tie

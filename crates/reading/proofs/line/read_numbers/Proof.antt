@@ -1,7 +1,7 @@
 use native.Mathlib.Omega.{arith}
 use mathlib.Core.Path.{refl, sym, _∙_}
 use lib.ListN.{length}
-use Rattle.reading.proofs.Fields.{Sofar, stood, begin, turn, ends, breaks, length-from}
+use Rattle.reading.proofs.LineFields.{Sofar, stood, begin, turn, ends, breaks, length-from}
 use borrow.Author.Needs.{needs}
 use Rattle.reading.proofs.line.read_numbers.Statement.{statement}
 use Rattle.reading.proofs.line.read_numbers.Tie as tie

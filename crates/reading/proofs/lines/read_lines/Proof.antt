@@ -2,7 +2,7 @@ use native.Mathlib.Omega.{arith}
 use lib.ListN.{length}
 use borrow.Author.Needs.{needs}
 use Rattle.reading.specs.Line.{line-here}
-use Rattle.reading.proofs.Fields.{length-from}
+use Rattle.reading.proofs.LineFields.{length-from}
 use Rattle.reading.proofs.Whole.{Along, begin, within, some-bytes, turn, refuses, all-read, taken-is, refused-is}
 use Rattle.reading.proofs.lines.read_lines.Statement.{statement}
 use Rattle.reading.proofs.lines.read_lines.Tie as tie
