@@ -1,0 +1,122 @@
+-- The plan of a sheet.
+use mathlib.Core.Path.{_≡_, refl, sym, ap, _∙_, subst}
+use mathlib.Core.Bool.{Bool, true, false, _&&_, not}
+use mathlib.Core.List.{List, [], _∷_}
+use Prim.Native.Nat.{ℕ, zero, suc, _<_, _≤_}
+use native.Mathlib.Omega.{arith}
+use lib.Dec.{ltb}
+use lib.ListN.{length}
+use borrow.Author.Tests.{lt-ltb, le-ltb}
+use Rattle.plan.specs.Lists.{all?, numbered, empty?}
+use Rattle.plan.specs.Sheet.{Sheet, Outcome, refused, done, _then_, refuse_when_else_, read, read-lines, parts, no-lines, no-plan}
+use Rattle.plan.specs.Faults.{checked, references-right, uses-right, fields-right, children-earlier}
+use Rattle.plan.specs.Stored.{stored-expr, stored-step, stored-exprs, stored-steps, table}
+use Rattle.reading.specs.Held.{Exprs-held, Step-held, Steps-held, sheet}
+use Rattle.reading.specs.Lines.{Sound, All-taken, Lines-read, sheet-of}
+use Rattle.reading.specs.Plan.{plan-of, checked-plan, Held-plan, Plan-is, Plan-held}
+use Rattle.reading.specs.declared.lines.Tally.{Tally}
+use Rattle.reading.specs.declared.lines.Lines.{Lines}
+use Rattle.reading.specs.declared.Plan.{Plan}
+use Rattle.reading.specs.declared.Plan.the-variants.{Taken, Refused}
+use Rattle.reading.proofs.Stores.{table-length}
+use Rattle.reading.proofs.Checks.{no-steps, some-steps}
+
+-- What comes after the last line ---------------------------------------------------------------------------------------------
+
+module _ (es ps : List ℕ) (n m : ℕ) where
+  abbrev sh : Sheet
+  sh = sheet es n ps m
+
+  pub no-step : m ≡ 0 → checked-plan sh ≡ refused 6
+  unfolding checked-plan refuse_when_else_ _then_
+  no-step h = rw (checked-plan, no-steps ps m h)
+
+  module _ (h : m ≡ 0 → ⊥) where
+    on : checked-plan sh ≡ checked sh
+    unfolding checked-plan refuse_when_else_ _then_
+    on = rw (checked-plan, some-steps ps m h)
+
+    pub bad-reference : {a : Bool} → a ≡ references-right sh → a ≡ false → checked-plan sh ≡ refused 7
+    unfolding checked refuse_when_else_
+    bad-reference e f = on ∙ rw (checked, ← e, f)
+
+    module _ {a : Bool} (e : a ≡ references-right sh) (f : a ≡ true) where
+      pub bad-use : {b : Bool} → b ≡ uses-right sh → b ≡ false → checked-plan sh ≡ refused 8
+      unfolding checked refuse_when_else_
+      bad-use g k = on ∙ rw (checked, ← e, f, ← g, k)
+
+      pub children-early : all? children-earlier (numbered 0 (stored-exprs es n)) ≡ true
+      unfolding references-right
+      children-early = first (all? children-earlier (numbered 0 (stored-exprs es n))) _ _ (sym e ∙ f)
+        where
+          first : (a b c : Bool) → (a && b && c) ≡ true → a ≡ true
+          first true b c e = refl
+          first false b c e = e
+
+      module _ {b : Bool} (g : b ≡ uses-right sh) (k : b ≡ true) where
+        pub bad-field : {c : Bool} → c ≡ fields-right (stored-exprs es n) → c ≡ false → checked-plan sh ≡ refused 9
+        unfolding checked refuse_when_else_
+        bad-field i j = on ∙ rw (checked, ← e, f, ← g, k, ← i, j)
+
+        pub good : {c : Bool} → c ≡ fields-right (stored-exprs es n) → c ≡ true → checked-plan sh ≡ done sh
+        unfolding checked refuse_when_else_
+        good i j = on ∙ rw (checked, ← e, f, ← g, k, ← i, j)
+
+  exprs-length : length (stored-exprs es n) ≡ n
+  unfolding stored-exprs
+  exprs-length = table-length (stored-expr es) 0 n
+
+  steps-length : length (stored-steps ps m) ≡ m
+  unfolding stored-steps
+  steps-length = table-length (stored-step ps) 0 m
+
+  pub taken : (o : Outcome Sheet) → o ≡ done sh → Plan-is o es ps (Taken (record { exprs = n; steps = m }))
+  taken o e =
+      subst (λ x. Plan-is x es ps (Taken (record { exprs = n; steps = m }))) (sym e)
+      (record {
+        answer = rw (exprs-length, steps-length);
+        exprs = ap (stored-exprs es) exprs-length;
+        steps = ap (stored-steps ps) steps-length;
+      })
+
+pub refuses : (o : Outcome Sheet) (es ps : List ℕ) (k : ℕ) → o ≡ refused k → Plan-is o es ps (Refused k)
+refuses o es ps k e = subst (λ x. Plan-is x es ps (Refused k)) (sym e) refl
+
+-- The whole sheet ------------------------------------------------------------------------------------------------------------
+
+pub too-long : (s : List ℕ) → 16384 < length s → plan-of s ≡ refused 2
+unfolding plan-of read refuse_when_else_ _then_
+too-long s h = rw (plan-of, read, lt-ltb 16384 (length s) h)
+
+module _ (s : List ℕ) (h : length s ≤ 16384) where
+  whole : (o : Outcome Sheet) → read-lines (parts 10 s) no-lines ≡ o → plan-of s ≡ ((o then λ sh. refuse 6 when no-plan sh else done sh) then checked)
+  unfolding plan-of read refuse_when_else_
+  whole o e = rw (plan-of, read, le-ltb 16384 (length s) h, e)
+
+  pub bad-line : (k : ℕ) → read-lines (parts 10 s) no-lines ≡ refused k → plan-of s ≡ refused k
+  unfolding _then_
+  bad-line k e = whole (refused k) e
+
+  pub good-lines : (sh : Sheet) → read-lines (parts 10 s) no-lines ≡ done sh → plan-of s ≡ checked-plan sh
+  unfolding _then_ checked-plan
+  good-lines sh e = whole (done sh) e
+
+-- what sound bytes hold
+pub held-exprs : {es ps : List ℕ} {t : Tally} → Sound es ps t → Exprs-held es (t .exprs)
+held-exprs s = record { few = (let h = s .few-exprs in omega arith); children = s .children }
+
+pub held-steps : {es ps : List ℕ} {t : Tally} → Sound es ps t → Steps-held ps (t .steps)
+held-steps s =
+    record {
+      few = s .few-steps;
+      each = λ i h. record { few = (let f = s .few-steps in omega arith); inputs = s .inputs i h; firsts = s .firsts i h; seconds = s .seconds i h };
+    }
+
+pub refused-is : (s es ps : List ℕ) (r : Lines) (k : ℕ) → Lines-read s es ps r → r ≡ Lines.Refused k → read-lines (parts 10 s) no-lines ≡ refused k
+refused-is s es ps r k l e = subst (λ x. Lines-read s es ps x) e l
+
+pub read-is : (s es ps : List ℕ) (r : Lines) (t : Tally) → Lines-read s es ps r → r ≡ Lines.Read t → All-taken s es ps t
+read-is s es ps r t l e = subst (λ x. Lines-read s es ps x) e l
+
+pub same-plan : (o o′ : Outcome Sheet) (es ps : List ℕ) (r : Plan) → o ≡ o′ → Plan-is o′ es ps r → Plan-is o es ps r
+same-plan o o′ es ps r e l = subst (λ x. Plan-is x es ps r) (sym e) l

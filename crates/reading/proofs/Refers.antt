@@ -1,0 +1,102 @@
+-- References, as the loops find them.
+use mathlib.Core.Path.{_≡_, refl, sym, ap, _∙_}
+use mathlib.Core.Bool.{Bool, true, false, _&&_, not}
+use mathlib.Core.List.{List, [], _∷_, _++_}
+use Prim.Native.Nat.{ℕ, zero, suc, _+_, _*_, _-_, _<_, _≤_}
+use native.Mathlib.Omega.{arith}
+use lib.Dec.{eqb, ltb}
+use lib.ListN.{length, getD, take, drop}
+use borrow.Author.Tests.{ltb-true, lt-ltb, le-ltb, eq-eqb, ne-eqb}
+use Rattle.plan.specs.declared.ir.IR.{IR}
+use Rattle.plan.specs.Kinds.{ir, ir-number, same-ir}
+use Rattle.plan.specs.Lists.{all?, numbered}
+use Rattle.plan.specs.Sheet.{Expr, Step, Sheet, step-at, no-step}
+use Rattle.plan.specs.Faults.{children-earlier, inputs-earlier, exprs-there, references-right}
+use Rattle.plan.specs.Stored.{stored-expr, stored-step, stored-exprs, stored-steps, table}
+use Rattle.reading.specs.Held.{children-of, count-of, both, before-no-sink, sheet}
+use Rattle.reading.proofs.Stores.{table-length}
+use Rattle.reading.proofs.Scans.{numbers-from, children-are, inputs-are, both-are, step-kind, step-kind-is, table-at, lines-from, from-first}
+
+pub all-same : {A : Type 0} (f g : A → Bool) → ((x : A) → f x ≡ g x) → (l : List A) → all? f l ≡ all? g l
+unfolding all?
+all-same f g h [] = refl
+all-same f g h (x ∷ l) = rw (h x, all-same f g h l)
+
+pub exprs-first : (f : ℕ × Expr → Bool) (es : List ℕ) (n : ℕ) → all? f (numbered 0 (stored-exprs es n)) ≡ lines-from f (stored-expr es) n 0
+unfolding stored-exprs
+exprs-first f es n = from-first f (stored-expr es) n
+
+pub steps-first : (f : ℕ × Step → Bool) (ps : List ℕ) (n : ℕ) → all? f (numbered 0 (stored-steps ps n)) ≡ lines-from f (stored-step ps) n 0
+unfolding stored-steps
+steps-first f ps n = from-first f (stored-step ps) n
+
+pub children-found : (es : List ℕ) (i n : ℕ) (r : Bool) → n ≡ children-of es i → r ≡ all? (λ q. ltb q i) (take n (drop (i * 16 + 4) es)) → r ≡ children-earlier (i, stored-expr es i)
+unfolding children-earlier
+children-found es i n r e h = h ∙ ap (all? (λ q. ltb q i)) (ap (λ k. take k (drop (i * 16 + 4) es)) e ∙ sym (children-are es i))
+
+pub exprs-found : (ps : List ℕ) (i c n1 n2 n3 : ℕ) (r : Bool) → n1 ≡ count-of 4 ps i → n2 ≡ count-of 5 ps i → n3 ≡ count-of 6 ps i
+    → r ≡ all? (λ q. ltb q c) (take (n2 + n3) (drop (i * 32 + 7 + n1) ps)) → r ≡ all? (λ q. ltb q c) (both (stored-step ps i))
+exprs-found ps i c n1 n2 n3 r e f g h = h ∙ ap (all? (λ q. ltb q c)) (rw (e, f, g) (sym (both-are ps i)))
+
+-- an input's kind, by its line
+sink-at : (ps : List ℕ) (n m : ℕ) → m < n → same-ir (step-at (stored-steps ps n) m .kind) IR.Sink ≡ eqb (getD ps (m * 32) 0) 2
+unfolding stored-steps
+sink-at ps n m h =
+    ap (λ (s : Step). same-ir (s .kind) IR.Sink) (table-at (stored-step ps) 0 n m no-step h ∙ ap (stored-step ps) (omega arith))
+    ∙ ap (λ k. same-ir k IR.Sink) (step-kind ps m)
+    ∙ step-kind-is (getD ps (m * 32) 0) 2 (omega arith) (omega arith)
+
+module _ (ps : List ℕ) (i n : ℕ) (h : i < n) where
+  fits : ℕ → Bool
+  fits m = ltb m i && not (same-ir (step-at (stored-steps ps n) m .kind) IR.Sink)
+
+  same-fit : (m : ℕ) → before-no-sink ps i m ≡ fits m
+  unfolding fits
+  same-fit m = by (ltb m i) refl
+    where
+      by : (b : Bool) → ltb m i ≡ b → before-no-sink ps i m ≡ fits m
+      by true e = ap (λ b. ltb m i && not b) (sym (sink-at ps n m (let l = ltb-true m i e in omega arith)))
+      by false e = rw e
+
+  pub inputs-found : (es : List Expr) (c : ℕ) (r : Bool) → c ≡ count-of 4 ps i → r ≡ all? (before-no-sink ps i) (take c (drop (i * 32 + 7) ps))
+      → r ≡ inputs-earlier (record { exprs = es; steps = stored-steps ps n }) (i, stored-step ps i)
+  unfolding inputs-earlier fits
+  inputs-found es c r e p = p ∙ all-same (before-no-sink ps i) fits same-fit (take c (drop (i * 32 + 7) ps)) ∙ ap (all? fits) (ap (λ k. take k (drop (i * 32 + 7) ps)) e ∙ sym (inputs-are ps i))
+
+module _ (ps : List ℕ) (i m : ℕ) where
+  pub not-before : i ≤ m → before-no-sink ps i m ≡ false
+  not-before h = rw (le-ltb m i h)
+
+  pub a-sink : m < i → getD ps (m * 32) 0 ≡ 2 → before-no-sink ps i m ≡ false
+  a-sink h e = rw (lt-ltb m i h, eq-eqb (getD ps (m * 32) 0) 2 e)
+
+  pub no-sink : m < i → (getD ps (m * 32) 0 ≡ 2 → ⊥) → before-no-sink ps i m ≡ true
+  no-sink h e = rw (lt-ltb m i h, ne-eqb (getD ps (m * 32) 0) 2 e)
+
+-- all three
+module _ (es ps : List ℕ) (n m : ℕ) where
+  length-exprs : length (stored-exprs es n) ≡ n
+  unfolding stored-exprs
+  length-exprs = table-length (stored-expr es) 0 n
+
+  there : (x : ℕ × Step) → all? (λ q. ltb q n) (both (x .1)) ≡ exprs-there (sheet es n ps m) x
+  unfolding exprs-there
+  there x = ap (λ (k : ℕ). all? (λ q. ltb q k) (both (x .1))) (sym length-exprs)
+
+  pub right-is : {a b c : Bool} → a ≡ all? children-earlier (numbered 0 (stored-exprs es n)) → b ≡ all? (inputs-earlier (sheet es n ps m)) (numbered 0 (stored-steps ps m))
+      → c ≡ all? (λ (i, s). all? (λ q. ltb q n) (both s)) (numbered 0 (stored-steps ps m)) → (a && b && c) ≡ references-right (sheet es n ps m)
+  unfolding references-right
+  right-is e f g = rw (e, f, g) (ap (λ b. all? children-earlier (numbered 0 (stored-exprs es n)) && all? (inputs-earlier (sheet es n ps m)) (numbered 0 (stored-steps ps m)) && b) (all-same _ _ there (numbered 0 (stored-steps ps m))))
+
+  pub not-children : {a : Bool} → a ≡ all? children-earlier (numbered 0 (stored-exprs es n)) → a ≡ false → false ≡ references-right (sheet es n ps m)
+  unfolding references-right
+  not-children e f = rw (← e, f)
+
+  pub not-inputs : {a b : Bool} → a ≡ all? children-earlier (numbered 0 (stored-exprs es n)) → b ≡ all? (inputs-earlier (sheet es n ps m)) (numbered 0 (stored-steps ps m)) → a ≡ true → b ≡ false
+      → false ≡ references-right (sheet es n ps m)
+  unfolding references-right
+  not-inputs e f g h = rw (← e, ← f, g, h)
+
+  pub all-three : {a b c : Bool} → a ≡ all? children-earlier (numbered 0 (stored-exprs es n)) → b ≡ all? (inputs-earlier (sheet es n ps m)) (numbered 0 (stored-steps ps m))
+      → c ≡ all? (λ (i, s). all? (λ q. ltb q n) (both s)) (numbered 0 (stored-steps ps m)) → a ≡ true → b ≡ true → c ≡ references-right (sheet es n ps m)
+  all-three {c = c} e f g h k = sym (rw (h, k)) ∙ right-is e f g

@@ -1,0 +1,223 @@
+-- A line's numbers written into the bytes, and what is read there afterwards.
+use mathlib.Core.Path.{_≡_, refl, sym, ap, _∙_}
+use mathlib.Core.List.{List, [], _∷_, _++_, append-assoc}
+use Prim.Native.Nat.{ℕ, zero, suc, _+_, _*_, _-_, _<_, _≤_}
+use native.Mathlib.Numerals.{add-one}
+use native.Mathlib.Omega.{arith}
+use native.Mathlib.Nat.{suc-add}
+use native.Mathlib.Decide.{ℕ-discrete}
+use Rattle.plan.specs.Sheet.{Expr, Step, expr-of, step-of}
+use Rattle.plan.specs.Stored.{stored-expr, stored-step, stored-exprs, stored-steps, table}
+use Rattle.reading.specs.Lines.{pasted}
+use Rattle.reading.specs.Held.{children-of, count-of}
+use lib.ListN.{length, getD, take, drop, set, length-set, length-drop, length-append, length-take, take-append-drop, List·getD-append}
+use lib.Seq.{paste-zero, paste-suc, length-paste, take-nil, take-append-le, drop-append-le, drop-at, take-take, drop-drop, getD-take, getD-drop, length-take-le, take-set-le, getD-set-same, ext-getD}
+
+-- The loop that writes them --------------------------------------------------------------------------------------------------
+
+pub put-none : (d : List ℕ) (at : ℕ) (v : List ℕ) → d ≡ pasted d at v 0
+unfolding pasted
+put-none d at v = paste-zero d at v
+
+pub put-turn : (d e : List ℕ) (at : ℕ) (v : List ℕ) (j : ℕ) {n : ℕ} → e ≡ pasted d at v j → at + j < length d → j < length v → j + 1 ≤ n
+    → (j + 1 ≤ n) × ((set e (at + j) (getD v j 0) ≡ pasted d at v (j + 1)) × (length (set e (at + j) (getD v j 0)) ≡ length d))
+unfolding pasted
+put-turn d e at v j p h k l =
+    (l, (rw (p, add-one j) (paste-suc d at v j 0 h k), length-set e (at + j) (getD v j 0) ∙ ap length p ∙ length-paste d at v j (omega arith) (omega arith)))
+
+pub put-done : (d e : List ℕ) (at : ℕ) (v : List ℕ) (j n : ℕ) → e ≡ pasted d at v j → j ≡ n → e ≡ pasted d at v n
+put-done d e at v j n p q = p ∙ rw q
+
+-- What is read afterwards ----------------------------------------------------------------------------------------------------
+
+pub drop-take : (a m : ℕ) (l : List ℕ) → drop a (take (a + m) l) ≡ take m (drop a l)
+drop-take zero m l = let e : 0 + m ≡ m = omega arith in rw e
+drop-take (suc a) m [] = ap (drop (suc a)) (take-nil (suc a + m)) ∙ sym (take-nil m)
+drop-take (suc a) m (x ∷ l) = ap (λ n. drop (suc a) (take n (x ∷ l))) (suc-add a m) ∙ drop-take a m l
+
+-- a part within the first p entries does not depend on what follows them
+front : (p r r′ : List ℕ) (a k : ℕ) → a + k ≤ length p → take k (drop a (p ++ r)) ≡ take k (drop a (p ++ r′))
+front p r r′ a k h = one r ∙ sym (one r′)
+  where
+    one : (q : List ℕ) → take k (drop a (p ++ q)) ≡ take k (drop a p)
+    one q = ap (take k) (drop-append-le a p q (omega arith)) ∙ take-append-le k (drop a p) q (omega (arith, length-drop a p))
+
+module _ (d v : List ℕ) (at n : ℕ) (h : at + n ≤ length d) (k : n ≤ length v) where
+  in-three : pasted d at v n ≡ take at d ++ (take n v ++ drop (at + n) d)
+  unfolding pasted
+  in-three = append-assoc (take at d) (take n v) (drop (at + n) d)
+
+  pub before : (a m : ℕ) → a + m ≤ at → take m (drop a (pasted d at v n)) ≡ take m (drop a d)
+  before a m l =
+      ap (λ (e : List ℕ). take m (drop a e)) in-three
+      ∙ front (take at d) (take n v ++ drop (at + n) d) (drop at d) a m (omega (arith, length-take-le at d (omega arith)))
+      ∙ ap (λ (e : List ℕ). take m (drop a e)) (take-append-drop at d)
+
+  pub byte-before : (i : ℕ) → i < at → getD (pasted d at v n) i 0 ≡ getD d i 0
+  byte-before i l =
+      ap (λ (e : List ℕ). getD e i 0) in-three
+      ∙ List·getD-append (take at d) (take n v ++ drop (at + n) d) 0 i (omega (arith, length-take-le at d (omega arith)))
+      ∙ getD-take at d i 0 l
+
+  here : drop at (pasted d at v n) ≡ take n v ++ drop (at + n) d
+  here = ap (drop at) in-three ∙ drop-at (take at d) (take n v ++ drop (at + n) d) at (length-take-le at d (omega arith))
+
+  pub written : (m : ℕ) → m ≤ n → take m (drop at (pasted d at v n)) ≡ take m v
+  written m l =
+      ap (take m) here
+      ∙ take-append-le m (take n v) (drop (at + n) d) (omega (arith, length-take-le n v k))
+      ∙ take-take m n v l
+
+  pub byte-written : (i : ℕ) → i < n → getD (pasted d at v n) (at + i) 0 ≡ getD v i 0
+  byte-written i l =
+      sym (getD-drop at (pasted d at v n) i 0)
+      ∙ ap (λ (e : List ℕ). getD e i 0) here
+      ∙ List·getD-append (take n v) (drop (at + n) d) 0 i (omega (arith, length-take-le n v k))
+      ∙ getD-take n v i 0 l
+
+-- Records --------------------------------------------------------------------------------------------------------------------
+
+module _ {A : Type 0} where
+  pub table-more : (f : ℕ → A) (k n : ℕ) → table f k (suc n) ≡ table f k n ++ (f (k + n) ∷ [])
+  unfolding table
+  table-more f k zero = ap (λ i. f i ∷ []) (omega arith)
+  table-more f k (suc n) = ap (λ l. f k ∷ l) (table-more f (suc k) n ∙ ap (λ i. table f (suc k) n ++ (f i ∷ [])) (omega arith))
+
+  pub table-same : (f g : ℕ → A) (k n : ℕ) → ((i : ℕ) → i < k + n → f i ≡ g i) → table f k n ≡ table g k n
+  unfolding table
+  table-same f g k zero h = refl
+  table-same f g k (suc n) h = rw (h k (omega arith)) (ap (λ l. g k ∷ l) (table-same f g (suc k) n (λ i l. h i (omega arith))))
+
+  pub table-length : (f : ℕ → A) (k n : ℕ) → length (table f k n) ≡ n
+  unfolding table
+  table-length f k zero = refl
+  table-length f k (suc n) = ap suc (table-length f (suc k) n)
+
+module _ (es v : List ℕ) (n count : ℕ) (h : n < 128) (el : length es ≡ 2048) (vl : length v ≡ 32) (small : count ≤ 8) where
+  abbrev es′ : List ℕ
+  es′ = pasted es (n * 16) (set v 12 count) 16
+
+  fits-here : n * 16 + 16 ≤ length es
+  fits-here = omega arith
+
+  wide : 16 ≤ length (set v 12 count)
+  wide = omega (arith, length-set v 12 count)
+
+  count-written : children-of es′ n ≡ count
+  count-written = byte-written es (set v 12 count) (n * 16) 16 fits-here wide 12 (omega arith) ∙ getD-set-same v 12 count 0 (omega arith)
+
+  new-expr : stored-expr es′ n ≡ expr-of (take (4 + count) v)
+  unfolding stored-expr
+  new-expr =
+      ap expr-of (ap (λ c. take (4 + c) (drop (n * 16) es′)) count-written ∙ written es (set v 12 count) (n * 16) 16 fits-here wide (4 + count) (omega arith) ∙ take-set-le (4 + count) v 12 count (omega arith))
+
+  module _ (small′ : (i : ℕ) → i < n → children-of es i ≤ 8) where
+    old-count : (i : ℕ) → i < n → children-of es′ i ≡ children-of es i
+    old-count i l = byte-before es (set v 12 count) (n * 16) 16 fits-here wide (i * 16 + 12) (omega arith)
+
+    old-expr : (i : ℕ) → i < n → stored-expr es′ i ≡ stored-expr es i
+    unfolding stored-expr
+    old-expr i l =
+        ap expr-of
+        (ap (λ c. take (4 + c) (drop (i * 16) es′)) (old-count i l)
+        ∙ before es (set v 12 count) (n * 16) 16 fits-here wide (i * 16) (4 + children-of es i) (let s = small′ i l in omega arith))
+
+    pub more-exprs : stored-exprs es′ (n + 1) ≡ stored-exprs es n ++ (expr-of (take (4 + count) v) ∷ [])
+    unfolding stored-exprs
+    more-exprs =
+        ap (λ k. table (stored-expr es′) 0 k) (add-one n)
+        ∙ table-more (stored-expr es′) 0 n
+        ∙ rw (table-same (stored-expr es′) (stored-expr es) 0 n (λ i l. old-expr i (omega arith)))
+        (ap (λ e. table (stored-expr es) 0 n ++ (e ∷ [])) (ap (stored-expr es′) (omega arith) ∙ new-expr))
+
+    pub counts-small : (i : ℕ) → i < n + 1 → children-of es′ i ≤ 8
+    counts-small i l = by (ℕ-discrete i n)
+      where
+        by : Dec (i ≡ n) → children-of es′ i ≤ 8
+        by (yes e) = rw (e, count-written) small
+        by (no e) = rw (old-count i (omega arith)) (small′ i (omega arith))
+
+-- A step's record depends only on its own numbers ----------------------------------------------------------------------------
+
+-- a part of the first m entries
+part-taken : (l : List ℕ) (a k m : ℕ) → a + k ≤ m → take k (drop a (take m l)) ≡ take k (drop a l)
+part-taken l a k m h =
+    let e : a + (m - a) ≡ m = omega arith in
+    ap (take k) (ap (λ j. drop a (take j l)) (sym e) ∙ drop-take a (m - a) l) ∙ take-take k (m - a) (drop a l) (omega arith)
+
+further : (l : List ℕ) (a b k m : ℕ) → b + a + k ≤ m → take k (drop a (drop b (take m l))) ≡ take k (drop a (drop b l))
+further l a b k m h = rw (drop-drop a b (take m l), drop-drop a b l) (part-taken l (b + a) k m h)
+
+pub step-take : (l : List ℕ) (m : ℕ) → 7 + (getD l 4 0 + getD l 5 0 + getD l 6 0) ≤ m → step-of (take m l) ≡ step-of l
+unfolding step-of
+step-take l m h =
+    rw (
+      step-of,
+      getD-take m l 0 0 (omega arith),
+      getD-take m l 1 0 (omega arith),
+      getD-take m l 2 0 (omega arith),
+      getD-take m l 3 0 (omega arith),
+      getD-take m l 4 0 (omega arith),
+      getD-take m l 5 0 (omega arith),
+      getD-take m l 6 0 (omega arith),
+      part-taken l 7 (getD l 4 0) m (omega arith),
+      further l (getD l 4 0) 7 (getD l 5 0) m (omega arith),
+      further l (getD l 4 0 + getD l 5 0) 7 (getD l 6 0) m (omega arith),
+    )
+
+module _ (ps v : List ℕ) (n : ℕ) (h : n < 32) (pl : length ps ≡ 1024) (vl : length v ≡ 32)
+    (small1 : getD v 4 0 ≤ 8) (small2 : getD v 5 0 ≤ 8) (small3 : getD v 6 0 ≤ 8) where
+  abbrev ps′ : List ℕ
+  ps′ = pasted ps (n * 32) v 32
+
+  room : n * 32 + 32 ≤ length ps
+  room = omega arith
+
+  all-of : 32 ≤ length v
+  all-of = omega arith
+
+  number-written : (i : ℕ) → i < 32 → count-of i ps′ n ≡ getD v i 0
+  number-written i l = byte-written ps v (n * 32) 32 room all-of i l
+
+  -- its own numbers are those that step-of reads
+  at-stored : (b : List ℕ) (j k : ℕ) → getD (drop (j * 32) b) k 0 ≡ count-of k b j
+  at-stored b j k = getD-drop (j * 32) b k 0
+
+  new-step : stored-step ps′ n ≡ step-of v
+  unfolding stored-step
+  new-step =
+      let a = at-stored ps′ n 4 ∙ number-written 4 (omega arith) in
+      let b = at-stored ps′ n 5 ∙ number-written 5 (omega arith) in
+      let c = at-stored ps′ n 6 ∙ number-written 6 (omega arith) in
+      sym (step-take (drop (n * 32) ps′) 31 (omega arith))
+      ∙ ap step-of (written ps v (n * 32) 32 room all-of 31 (omega arith))
+      ∙ step-take v 31 (omega arith)
+
+  module _ (in8 : (i : ℕ) → i < n → count-of 4 ps i ≤ 8) (fst8 : (i : ℕ) → i < n → count-of 5 ps i ≤ 8) (snd8 : (i : ℕ) → i < n → count-of 6 ps i ≤ 8) where
+    old-number : (k i : ℕ) → k < 32 → i < n → count-of k ps′ i ≡ count-of k ps i
+    old-number k i l m = byte-before ps v (n * 32) 32 room all-of (i * 32 + k) (omega arith)
+
+    old-step : (i : ℕ) → i < n → stored-step ps′ i ≡ stored-step ps i
+    unfolding stored-step
+    old-step i l =
+        let a = in8 i l in
+        let b = fst8 i l in
+        let c = snd8 i l in
+        sym (step-take (drop (i * 32) ps′) 31 (omega (arith, at-stored ps′ i 4 ∙ old-number 4 i (omega arith) l, at-stored ps′ i 5 ∙ old-number 5 i (omega arith) l, at-stored ps′ i 6 ∙ old-number 6 i (omega arith) l)))
+        ∙ ap step-of (before ps v (n * 32) 32 room all-of (i * 32) 31 (omega arith))
+        ∙ step-take (drop (i * 32) ps) 31 (omega (arith, at-stored ps i 4, at-stored ps i 5, at-stored ps i 6))
+
+    pub more-steps : stored-steps ps′ (n + 1) ≡ stored-steps ps n ++ (step-of v ∷ [])
+    unfolding stored-steps
+    more-steps =
+        ap (λ k. table (stored-step ps′) 0 k) (add-one n)
+        ∙ table-more (stored-step ps′) 0 n
+        ∙ rw (table-same (stored-step ps′) (stored-step ps) 0 n (λ i l. old-step i (omega arith)))
+        (ap (λ e. table (stored-step ps) 0 n ++ (e ∷ [])) (ap (stored-step ps′) (omega arith) ∙ new-step))
+
+    pub entries-small : (k : ℕ) → k < 32 → getD v k 0 ≤ 8 → ((i : ℕ) → i < n → count-of k ps i ≤ 8) → (i : ℕ) → i < n + 1 → count-of k ps′ i ≤ 8
+    entries-small k l s old i m = by (ℕ-discrete i n)
+      where
+        by : Dec (i ≡ n) → count-of k ps′ i ≤ 8
+        by (yes e) = rw (e, number-written k l) s
+        by (no e) = rw (old-number k i l (omega arith)) (old i (omega arith))

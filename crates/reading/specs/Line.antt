@@ -1,0 +1,72 @@
+-- A line as the code meets it: at the front of the bytes that are left.
+use mathlib.Core.Path.{_≡_}
+use Prim.Native.Nat.{ℕ, suc, _+_, _<_}
+use mathlib.Core.Bool.{Bool, true, false}
+use mathlib.Core.List.{List, [], _∷_}
+use mathlib.Core.Option.{Option, none, some}
+use lib.Dec.{eqb, ltb}
+use lib.ListN.{getD, length, set, replicate}
+use Rattle.plan.specs.Lists.{if_then_else_}
+use Rattle.plan.specs.Sheet.{parts, numbers, Line, line-of}
+use Rattle.reading.specs.Number.{number-at}
+use Rattle.reading.specs.declared.number.Number.{Number}
+use Rattle.reading.specs.declared.number.Number.the-variants.{Value, Bad}
+use Rattle.reading.specs.declared.line.Field.{Field}
+use Rattle.reading.specs.declared.line.Numbers.{Numbers}
+
+-- the bytes up to the next byte 10, or all of them
+unfoldable pub line : List ℕ → List ℕ
+line [] = []
+line (x ∷ xs) = elim (eqb x 10) [ true ↦ [] | false ↦ x ∷ line xs ]
+
+-- is there a byte 10?
+unfoldable pub ended : List ℕ → Bool
+ended [] = false
+ended (x ∷ xs) = elim (eqb x 10) [ true ↦ true | false ↦ ended xs ]
+
+-- the line at the front of the bytes
+unfoldable pub line-here : List ℕ → Option Line
+line-here s = if ended s then line-of (line s) else none
+
+-- What follows a line's letter -------------------------------------------------------------------------------------------
+
+-- nothing, or a comma and numbers
+unfoldable pub numbers-after : List ℕ → Option (List ℕ)
+numbers-after [] = some []
+numbers-after (x ∷ xs) = if eqb x 44 then numbers (parts 44 xs) else none
+
+unfoldable pub numbers-of : List ℕ → Option (List ℕ)
+numbers-of s = if ended s then numbers-after (line s) else none
+
+abbrev pub field-of : Number → Field
+field-of (Value v n) = Field.Number v (n + 1)
+field-of Bad = Field.Broken
+
+-- what stands at the front
+unfoldable pub field-at : List ℕ → Field
+field-at [] = Field.Broken
+field-at (x ∷ xs) = if eqb x 10 then Field.End else if eqb x 44 then field-of (number-at xs) else Field.Broken
+
+abbrev pub no-numbers : Bool → Numbers
+no-numbers b = record { ok = b; len = 0; count = 0; v = replicate 32 0 }
+
+abbrev pub pushed : Numbers → ℕ → ℕ → Numbers
+pushed f x n =
+    record { ok = f .ok; len = f .len + n; count = f .count + 1; v = if ltb (f .count) 31 then set (f .v) (f .count) x else f .v }
+
+-- the first of a list of numbers, as far as 31 go, stand in bytes
+pub record Kept (ns v : List ℕ) : Type 0 where
+  pub size : length v ≡ 32
+  pub first : (i : ℕ) → i < 31 → i < length ns → getD v i 0 ≡ getD ns i 0
+
+-- all the numbers were read
+pub record All-read (s : List ℕ) (r : Numbers) : Type 0 where
+  pub list : List ℕ
+  pub are : numbers-of s ≡ some list
+  pub count : r .count ≡ length list
+  pub kept : Kept list (r .v)
+  pub len : r .len ≡ suc (length (line s))
+
+pub record Numbers-read (s : List ℕ) (r : Numbers) : Type 0 where
+  pub good : r .ok ≡ true → All-read s r
+  pub bad : r .ok ≡ false → numbers-of s ≡ none

@@ -1,0 +1,61 @@
+// From the bytes of a sheet to its plan: refusals 2 to 9 of document 01.
+ghost use Rattle.reading.specs.Held.{Exprs-held, Steps-held, sheet};
+ghost use Rattle.reading.specs.Plan.{checked-plan, plan-of, Plan-is, Plan-held};
+use crate::lines::Lines;
+
+pub mod fields; // fields.rt: struct fields under an evaluation child
+pub mod line; // line.rt: the numbers of a line
+pub mod lines; // lines.rt: the lines, one after the other, as they are stored
+pub mod number; // number.rt: a number of a line
+pub mod references; // references.rt: what lines refer to
+pub mod tables; // tables.rt: what each kind of line may have
+pub mod uses; // uses.rt: how often lines are named
+
+// How many E lines and P lines a plan has.
+pub struct Counts {
+    pub exprs: usize,
+    pub steps: usize,
+}
+
+pub enum Plan {
+    Taken(Counts),
+    // The number of document 01's table.
+    Refused(u8),
+}
+
+// What is checked once all lines are read: a plan is there, references, uses, struct fields (6 to 9).
+fn check_plan(exprs: &[u8; 2048], count: usize, steps: &[u8; 1024], n: usize) -> Plan
+    requires { ⌜ Exprs-held (now exprs) count × Steps-held (now steps) n ⌝ }
+    ensures { λ r. ⌜ Plan-is (checked-plan (sheet (now (exprs .entry)) count (now (steps .entry)) n)) (now (exprs .entry)) (now (steps .entry)) r × Plan-held (now (exprs .entry)) (now (steps .entry)) r ⌝ }
+{
+    if n == 0 {
+        return Plan::Refused(6);
+    }
+    if !crate::references::references_right(exprs, count, steps, n) {
+        return Plan::Refused(7);
+    }
+    if !crate::uses::uses_right(exprs, count, steps, n) {
+        return Plan::Refused(8);
+    }
+    if !crate::fields::fields_right(exprs, count) {
+        return Plan::Refused(9);
+    }
+    let counts = Counts {
+        exprs: count,
+        steps: n,
+    };
+    Plan::Taken(counts)
+}
+
+// A sheet's plan: its lines stand in the two buffers as plan/specs/Stored says. What the buffers hold after a refusal is left free.
+pub fn read_plan(sheet: &[u8], exprs: &mut [u8; 2048], steps: &mut [u8; 1024]) -> Plan
+    ensures { λ r. ⌜ Plan-is (plan-of (now (sheet .entry))) (now (exprs .exit)) (now (steps .exit)) r × Plan-held (now (exprs .exit)) (now (steps .exit)) r ⌝ }
+{
+    if 16384 < sheet.len() {
+        return Plan::Refused(2);
+    }
+    match crate::lines::read_lines(sheet, exprs, steps) {
+        Lines::Refused(k) => Plan::Refused(k),
+        Lines::Read(t) => check_plan(exprs, t.exprs, steps, t.steps),
+    }
+}
