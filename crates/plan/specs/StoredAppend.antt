@@ -9,7 +9,7 @@ use native.Mathlib.Numerals.{add-one}
 use native.Mathlib.Nat.{not-suc-le-zero}
 use native.Mathlib.Decide.{decLt}
 use lib.ListN.{length, getD, take, drop, set, length-set, length-drop}
-use lib.Seq.{take-take, getD-drop, getD-set-same, getD-set-other, drop-set-lt, drop-set-add, take-set-le}
+use lib.Seq.{take-take, getD-take, getD-drop, getD-set-same, getD-set-other, drop-set-lt, drop-set-add, take-set-le}
 use Rattle.plan.specs.declared.aexpr.AExpr.{AExpr}
 use Rattle.plan.specs.Kinds.{aexpr}
 use Rattle.plan.specs.Lists.{if_then_else_}
@@ -122,3 +122,44 @@ module _ (bytes line : List ℕ) (off : List Bool) (n q : ℕ) (room : n * 16 + 
 
       new : held-expr (with-implode bytes n q) (set line n n) (set off n false) n ≡ implode-over q
       new = rw (getD-set-same line n n 0 lines, getD-set-same off n false false switches) (implode-stored bytes n q room)
+
+-- Its bytes, and those before it ----------------------------------------------------------------------------------------------------------
+
+pub byte-before : (bytes : List ℕ) (n q j : ℕ) → j < n * 16 → getD (with-implode bytes n q) j 0 ≡ getD bytes j 0
+byte-before bytes n q j h =
+    let b₁ = set bytes (n * 16 + 0) 23 in
+    let b₂ = set b₁ (n * 16 + 1) 1 in
+    let b₃ = set b₂ (n * 16 + 2) 0 in
+    let b₄ = set b₃ (n * 16 + 3) 1 in
+    let b₅ = set b₄ (n * 16 + 4) q in
+    getD-set-other b₅ (n * 16 + 12) j 1 0 (λ e. omega (arith, e)) ∙ getD-set-other b₄ (n * 16 + 4) j q 0 (λ e. omega (arith, e))
+    ∙ getD-set-other b₃ (n * 16 + 3) j 1 0 (λ e. omega (arith, e)) ∙ getD-set-other b₂ (n * 16 + 2) j 0 0 (λ e. omega (arith, e))
+    ∙ getD-set-other b₁ (n * 16 + 1) j 1 0 (λ e. omega (arith, e)) ∙ getD-set-other bytes (n * 16 + 0) j 23 0 (λ e. omega (arith, e))
+
+pub old-formed : (bytes : List ℕ) (n q l : ℕ) → l < n → Expr-formed bytes l → Expr-formed (with-implode bytes n q) l
+old-formed bytes n q l h f =
+    record {
+      kind = rw (byte-before bytes n q (l * 16) (omega arith)) (f .kind);
+      scalar = rw (byte-before bytes n q (l * 16 + 1) (omega arith)) (f .scalar);
+      length-preserving = rw (byte-before bytes n q (l * 16 + 2) (omega arith)) (f .length-preserving);
+      count = rw (byte-before bytes n q (l * 16 + 12) (omega arith)) (f .count);
+    }
+
+module _ (bytes : List ℕ) (n q : ℕ) (room : n * 16 + 16 ≤ length bytes) where
+  -- a byte among the first five
+  front-byte : (k : ℕ) → k < 5 → getD (with-implode bytes n q) (n * 16 + k) 0 ≡ getD (23 ∷ 1 ∷ 0 ∷ 1 ∷ q ∷ []) k 0
+  front-byte k h =
+      sym (getD-drop (n * 16) (with-implode bytes n q) k 0)
+      ∙ ap (λ (l : List ℕ). getD l k 0) (own bytes n q room)
+      ∙ sym (getD-take 5 (set (set (set (set (set (set (drop (n * 16) bytes) 0 23) 1 1) 2 0) 3 1) 4 q) 12 1) k 0 h)
+      ∙ ap (λ (l : List ℕ). getD l k 0) (five bytes n q room (drop (n * 16) bytes) (omega (arith, length-drop (n * 16) bytes)))
+
+  pub new-formed : Expr-formed (with-implode bytes n q) n
+  new-formed =
+      let first : n * 16 + 0 ≡ n * 16 = omega arith in
+      record {
+        kind = omega (arith, ap (λ (j : ℕ). getD (with-implode bytes n q) j 0) first, front-byte 0 (omega arith));
+        scalar = omega (arith, front-byte 1 (omega arith));
+        length-preserving = omega (arith, front-byte 2 (omega arith));
+        count = omega (arith, count-written bytes n q room);
+      }

@@ -2,3 +2,4 @@ pub mod EdgeLaws
 pub mod StoreLaws
 pub mod UnlinkLaws
 pub mod RuleLaws
+pub mod ImplodeLaws

@@ -1,5 +1,6 @@
 // A visit to a step (simplify_ir_node_orders), unlink_node, and the two walks: mod.rs.
 pub mod around; // around.rt: a step's edges as a visit finds them
+pub mod implode; // implode.rt: the Implodes that GroupBy appends
 pub mod joins; // joins.rt: the rule of a Join
 pub mod loosen; // loosen.rt: the edges that a rule loosens
 pub mod rules; // rules.rt: what a visit makes of a step and its edges
