@@ -1,1 +1,2 @@
-pub mod Acc
+pub mod Accs
+pub mod Records

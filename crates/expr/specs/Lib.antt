@@ -1,2 +1,4 @@
 pub mod Cache
 pub mod Acc
+pub mod Record
+pub mod Tables

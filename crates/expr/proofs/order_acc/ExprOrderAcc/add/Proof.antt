@@ -1,5 +1,5 @@
 use borrow.Author.Needs.{needs}
-use Rattle.expr.proofs.Acc.{added-none, added-one}
+use Rattle.expr.proofs.Accs.{added-none, added-one}
 use Rattle.expr.proofs.order_acc.ExprOrderAcc.add.Statement.{statement}
 use Rattle.expr.proofs.order_acc.ExprOrderAcc.add.Tie as tie
 use Rattle.expr.proofs.order_acc.ExprOrderAcc.add.Reads as reads
