@@ -2,3 +2,5 @@ pub mod Cache
 pub mod Acc
 pub mod Record
 pub mod Tables
+pub mod State
+pub mod Contract
