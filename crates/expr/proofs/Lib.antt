@@ -1,2 +1,3 @@
 pub mod Accs
 pub mod Records
+pub mod View

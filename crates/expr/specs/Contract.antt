@@ -6,8 +6,8 @@ use mathlib.Core.List.{List, [], _∷_}
 use lib.ListN.{length, getD, drop}
 use Rattle.plan.specs.declared.orders.ObservableOrders.{ObservableOrders}
 use Rattle.plan.specs.Sheet.{Expr}
-use Rattle.plan.specs.Orders.{ExprOrderAcc, no-orders}
-use Rattle.plan.specs.Look.{Before, Look, look, look-along, look-along-children, in-order}
+use Rattle.plan.specs.Orders.{∅, ExprOrderAcc}
+use Rattle.plan.specs.Look.{Before, Look, look, look-along, look-along-children, look-ended, in-order}
 use Rattle.plan.specs.Look as plan
 use Rattle.expr.specs.declared.look.Eos.{Eos}
 use Rattle.expr.specs.declared.look.Walk.{Walk}
@@ -35,6 +35,12 @@ pub record LookAsks (recs : List ℕ) (n : ℕ) (s : Eos) (p : ℕ) (allow : Boo
 -- it is the definition's, at every sufficient fuel
 pub record LookGives (recs : List ℕ) (n : ℕ) (s : Eos) (p : ℕ) (allow : Bool) (r : Eos) : Type 0 where
   pub is : (f : ℕ) → getD (s .line) p 0 < f → looked-of recs n r ≡ look f allow p (eos-of recs n s)
+  pub kept : Kept s r
+
+-- the end of a look at p, whose record was e, for every base and every list of answers that begins with the first one
+pub record Ended (s : Eos) (p : ℕ) (e : Expr) (v : plan.After) (o field first : ObservableOrders) (r : Eos) : Type 0 where
+  pub is : (recs : List ℕ) (n : ℕ) (os : List ObservableOrders) → p < n → getD os 0 ∅ ≡ first
+      → looked-of recs n r ≡ (o, look-ended p e v o field os (eos-of recs n s))
   pub kept : Kept s r
 
 -- The look along the children from the i-th on -----------------------------------------------------------------------------------

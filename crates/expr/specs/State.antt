@@ -43,18 +43,19 @@ pub record Based (recs : List ℕ) (n : ℕ) : Type 0 where
 
 -- The lines ----------------------------------------------------------------------------------------------------------------------
 
+pub record Sized (s : Eos) : Type 0 where
+  pub line : length (s .line) ≡ 128
+  pub off : length (s .off) ≡ 128
+  pub cache : length (s .cache) ≡ 128
+
 -- a line holds its own record or a lower one
 pub record Formed (n : ℕ) (s : Eos) : Type 0 where
-  pub line-size : length (s .line) ≡ 128
-  pub off-size : length (s .off) ≡ 128
-  pub cache-size : length (s .cache) ≡ 128
+  pub sized : Sized s
   pub below : (q : ℕ) → q < n → getD (s .line) q 0 ≤ q
 
 -- no line holds a base record above the one that it held before
 pub record Kept (s r : Eos) : Type 0 where
-  pub line-size : length (r .line) ≡ length (s .line)
-  pub off-size : length (r .off) ≡ length (s .off)
-  pub cache-size : length (r .cache) ≡ length (s .cache)
+  pub sized : Sized s → Sized r
   pub lower : (q : ℕ) → getD (r .line) q 0 ≤ getD (s .line) q 0
   pub visits : r .tally .visits ≡ s .tally .visits
 
