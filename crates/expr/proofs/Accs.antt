@@ -31,7 +31,7 @@ module _ (x : ExprOrderAcc) (right : ObservableOrders) (node : ℕ) (e d : Bool)
   unfolding add
   added-one q = rw (u-is, d-is, ← e-is, q)
 
-suc-eqb : (a b : ℕ) → eqb (suc a) (suc b) ≡ eqb a b
+pub suc-eqb : (a b : ℕ) → eqb (suc a) (suc b) ≡ eqb a b
 suc-eqb a b = rw compare·suc-suc
 
 -- one answer more

@@ -1,3 +1,5 @@
 pub mod Accs
 pub mod Records
 pub mod View
+pub mod Laws
+pub mod Along
