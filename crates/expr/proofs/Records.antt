@@ -48,7 +48,7 @@ module _ (b : List ℕ) (l : ℕ) (room : l * 16 + 16 ≤ length b) (formed : Ex
         next 11 (omega arith),
       )
 
-  stored : stored-expr b l
+  pub stored : stored-expr b l
       ≡ record {
         kind = aexpr (getD b (l * 16) 0);
         scalar = eqb (at 1) 1;

@@ -214,9 +214,10 @@ impl After {
 }
 
 // The answer, from the orders of the input.
-pub fn answer(output: Output, input: ObservableOrders) -> ObservableOrders
-    ensures { λ r. ⌜ r ≡ output-of output input ⌝ }
+pub fn answer(v: After, input: ObservableOrders) -> ObservableOrders
+    ensures { λ r. ⌜ r ≡ after-of v .answer input ⌝ }
 {
+    let output = v.answer;
     match output {
         Output::Is(o) => o,
         Output::Input => input,

@@ -9,10 +9,10 @@ ghost use Rattle.plan.specs.Kinds.{same-aexpr};
 ghost use Rattle.plan.specs.Lists.{if_then_else_, yes?, all?};
 ghost use Rattle.plan.specs.Orders.{is-empty};
 ghost use Rattle.plan.specs.declared.aexpr.AExpr.{AExpr};
-ghost use Rattle.plan.specs.Look.{look-ended};
+ghost use Rattle.expr.specs.Tables.{after-of};
 ghost use Rattle.expr.specs.Record.{record-of, Shaped};
-ghost use Rattle.expr.specs.State.{preserves, is-replaced-line, Readable};
-ghost use Rattle.expr.specs.Contract.{LookAsks, LookGives, AlongAsks, AlongGives};
+ghost use Rattle.expr.specs.State.{Sized, preserves, is-replaced-line, Readable};
+ghost use Rattle.expr.specs.Contract.{Ended, LookAsks, LookGives, AlongAsks, AlongGives};
 use crate::after::After;
 use crate::after::answer;
 use crate::before::Before;
@@ -124,4 +124,104 @@ fn mode(b: Before, i: u8) -> bool
     ensures { λ r. ⌜ r ≡ (if eqb i 0 then b .first else b .others) ⌝ }
 {
     if i == 0 { b.first } else { b.others }
+}
+
+// The end of a look at p, whose record was e: o the answer, field the struct's field before it, first the first child's answer.
+fn look_ended(
+    s: Eos,
+    p: usize,
+    e: ExprRecord,
+    v: After,
+    o: ObservableOrders,
+    field: ObservableOrders,
+    first: ObservableOrders,
+) -> Eos
+    requires { ⌜ (p < 128) × Sized s ⌝ }
+    ensures { λ r. ⌜ Ended s p (record-of e) (after-of v) o field first r ⌝ }
+{
+    let mut t = s;
+    let was = t.off[p];
+    let entry = t.cache[p];
+    let before = t.observed;
+    let observes = v.observes;
+    let observed = before.union(observes);
+    t.field = field;
+    t.observed = observed;
+    t.off[p] = was | loses_order(e, first);
+    t.cache[p] = pick_byte(v.caches, packed(o), entry);
+    t.answer = o;
+    t
+}
+
+// A look at p. allow: is de-ordering allowed?
+pub fn look(recs: &[u8; 2048], n: usize, s: Eos, p: usize, allow: bool) -> Eos
+    requires { ⌜ LookAsks (now recs) n s p allow ⌝ }
+    ensures { λ r. ⌜ LookGives (now (recs .entry)) n s p allow r ⌝ }
+{
+    let mut t = s;
+    t.tally.looks = t.tally.looks + 1;
+    let l = t.line[p];
+    let off = t.off[p];
+    let entry = t.cache[p];
+    let field = t.field;
+    let e = expr_of(recs, l, off);
+    let b = Before::of(e, allow);
+    if b.checks & (entry != 0) {
+        let o = unpacked(entry);
+        t.answer = o;
+        return t;
+    }
+    if is_replaced(recs, &t.line, e, allow) {
+        let c = first_child(e) as usize;
+        let l1 = t.line[c];
+        let off1 = t.off[c];
+        t.line[p] = l1;
+        t.off[p] = off1;
+        return look(recs, n, t, p, allow);
+    }
+    let none = Seen::new();
+    if e.count == 0 {
+        let v = After::of(e, allow, field, none);
+        return look_ended(t, p, e, v, answer(v, none.first), field, none.first);
+    }
+    let w = look_along(recs, n, t, e, b, l, none, 0);
+    let seen = w.seen;
+    let acc = seen.acc;
+    let v = After::of(e, allow, field, seen);
+    if v.again {
+        let u = look(recs, n, w.state, acc.last_ordered_node as usize, true);
+        return look_ended(u, p, e, v, answer(v, u.answer), field, seen.first);
+    }
+    look_ended(w.state, p, e, v, answer(v, acc.acc), field, seen.first)
+}
+
+// A look along the children of e from the i-th on; each is below l.
+pub fn look_along(
+    recs: &[u8; 2048],
+    n: usize,
+    s: Eos,
+    e: ExprRecord,
+    b: Before,
+    l: u8,
+    seen: Seen,
+    i: u8,
+) -> Walk
+    requires { ⌜ AlongAsks (now recs) n s e b l seen i ⌝ }
+    ensures { λ r. ⌜ AlongGives (now (recs .entry)) n s e b l seen i r ⌝ }
+{
+    let c = child_of(e, b.turned, i);
+    let mut t = look(recs, n, s, c as usize, mode(b, i));
+    let o = t.answer;
+    let next = seen.add(o, c, i);
+    let kind = e.kind;
+    let field = t.field;
+    let within = enter_struct(kind, i, o, field);
+    t.field = within;
+    if i + 1 == e.count {
+        return Walk {
+            state: t,
+            seen: next,
+        };
+    }
+    look_along(recs, n, t, e, b, l, next, i + 1)
 }
