@@ -6,3 +6,4 @@ pub mod Along
 pub mod States
 pub mod Ways
 pub mod Children
+pub mod Projections

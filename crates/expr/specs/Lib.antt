@@ -4,3 +4,4 @@ pub mod Record
 pub mod Tables
 pub mod State
 pub mod Contract
+pub mod Projected
