@@ -1,0 +1,50 @@
+-- Laws of ExprOrderAcc, and of the answers of the first three children.
+use mathlib.Core.Path.{_≡_, refl, sym, ap, _∙_}
+use Prim.Native.Nat.{ℕ, zero, suc, _+_, compare·suc-suc}
+use mathlib.Core.Bool.{Bool, true, false, _&&_, _||_, not}
+use mathlib.Core.List.{List, [], _∷_, _++_}
+use lib.Dec.{eqb}
+use native.Mathlib.Omega.{arith}
+use borrow.Author.Tests.{ne-eqb}
+use lib.ListN.{length, getD}
+use Rattle.plan.specs.declared.orders.ObservableOrders.{ObservableOrders}
+use Rattle.plan.specs.Lists.{if_then_else_}
+use Rattle.plan.specs.Orders.{∅, is-empty, _∪_, add}
+use Rattle.expr.specs.declared.order_acc.ExprOrderAcc.{ExprOrderAcc}
+use Rattle.expr.specs.declared.order_acc.Seen.{Seen}
+use Rattle.expr.specs.Acc.{acc-of, Adds, Sees}
+
+-- the two ways of `add`: e and d say whether the right and the accumulated orders are empty, u is their union
+module _ (x : ExprOrderAcc) (right : ObservableOrders) (node : ℕ) (e d : Bool) (u : ObservableOrders) (e-is : e ≡ is-empty right) (d-is : d ≡ is-empty (x .acc)) (u-is : u ≡ x .acc ∪ right) where
+  abbrev mixed : Bool
+  mixed = x .«saw_mixed_inputs» || (x .acc .independent && not e) || (right .independent && not d)
+
+  pub added-none : e ≡ true
+      → acc-of (record { acc = u; «saw_mixed_inputs» = mixed; «num_ordered_inputs» = x .«num_ordered_inputs»; «last_ordered_node» = x .«last_ordered_node» })
+      ≡ add (acc-of x) right node
+  unfolding add
+  added-none q = rw (u-is, d-is, ← e-is, q)
+
+  pub added-one : e ≡ false
+      → acc-of (record { acc = u; «saw_mixed_inputs» = mixed; «num_ordered_inputs» = x .«num_ordered_inputs» + 1; «last_ordered_node» = node })
+      ≡ add (acc-of x) right node
+  unfolding add
+  added-one q = rw (u-is, d-is, ← e-is, q)
+
+pub suc-eqb : (a b : ℕ) → eqb (suc a) (suc b) ≡ eqb a b
+suc-eqb a b = rw compare·suc-suc
+
+-- one answer more
+at-end : (os : List ObservableOrders) (o : ObservableOrders) (k : ℕ) → getD (os ++ (o ∷ [])) k ∅ ≡ (if eqb (length os) k then o else getD os k ∅)
+at-end [] o zero = refl
+at-end [] o (suc k) = rw (ne-eqb 0 (suc k) (λ q. omega arith))
+at-end (a ∷ os) o zero = rw (ne-eqb (suc (length os)) 0 (λ q. omega arith))
+at-end (a ∷ os) o (suc k) = rw (suc-eqb (length os) k) (at-end os o k)
+
+pub sees-next : {os : List ObservableOrders} {x r : Seen} {o : ObservableOrders} {node i : ℕ} → length os ≡ i → Sees os x → Adds x o node i r → Sees (os ++ (o ∷ [])) r
+sees-next {os} {x} {r} {o} l s a =
+    record {
+      first = rw (at-end os o 0, l, s .first, a .first);
+      second = rw (at-end os o 1, l, s .second, a .second);
+      third = rw (at-end os o 2, l, s .third, a .third);
+    }

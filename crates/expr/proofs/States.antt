@@ -1,0 +1,205 @@
+-- Laws of the code's state: what its changes are to the definition's, and what they keep.
+use mathlib.Core.Path.{_≡_, refl, sym, ap, _∙_}
+use Prim.Native.Nat.{ℕ, zero, suc, _+_, _*_, _<_, _≤_}
+use native.Mathlib.Nat.{le-refl, le-trans}
+use native.Mathlib.Omega.{arith}
+use mathlib.Core.Bool.{Bool, true, false, _&&_, _||_}
+use mathlib.Core.List.{List, [], _∷_, _++_}
+use lib.Dec.{eqb}
+use lib.ListN.{length, getD, set, length-set, length-append}
+use lib.Seq.{getD-set-same, getD-set-other}
+use borrow.Author.Tests.{eqb-true, eqb-false}
+use Rattle.plan.specs.declared.aexpr.AExpr.{AExpr}
+use Rattle.plan.specs.declared.orders.ObservableOrders.{ObservableOrders}
+use Rattle.plan.specs.Kinds.{same-aexpr}
+use Rattle.plan.specs.Lists.{if_then_else_, yes?}
+use Rattle.plan.specs.Sheet.{expr-at}
+use Rattle.plan.specs.Orders.{∅, _∪_, is-empty, add}
+use Rattle.plan.specs.Look.{one-look, with-arena, with-field, look-ended}
+use Rattle.expr.specs.declared.after.After.{After}
+use Rattle.expr.specs.declared.look.Eos.{Eos}
+use Rattle.expr.specs.declared.order_acc.Seen.{Seen}
+use Rattle.expr.specs.declared.record.ExprRecord.{ExprRecord}
+use Rattle.expr.specs.Acc.{acc-of, none-seen, Adds, Sees}
+use Rattle.expr.specs.Cache.{packed, cache-of}
+use Rattle.expr.specs.Record.{record-of, held}
+use Rattle.expr.specs.State.{eos-of, Sized, Formed, Kept}
+use Rattle.expr.specs.Tables.{after-of}
+use Rattle.expr.specs.Contract.{looked-of, Ended, Begun}
+use Rattle.expr.proofs.Accs.{sees-next}
+use Rattle.expr.proofs.View.{arena-at, arena-copied, arena-off, cache-written}
+
+-- What is kept -------------------------------------------------------------------------------------------------------------------
+
+pub kept-trans : {s t r : Eos} → Kept s t → Kept t r → Kept s r
+kept-trans p q = record { sized = λ z. q .sized (p .sized z); lower = λ i. le-trans (q .lower i) (p .lower i); visits = q .visits ∙ p .visits }
+
+pub formed-kept : {n : ℕ} {s r : Eos} → Formed n s → Kept s r → Formed n r
+formed-kept f k = record { sized = k .sized (f .sized); below = λ q h. le-trans (k .lower q) (f .below q h) }
+
+-- The changes of the code's state ------------------------------------------------------------------------------------------------
+
+abbrev pub counted : Eos → Eos
+counted s =
+    record {
+      line = s .line;
+      off = s .off;
+      cache = s .cache;
+      field = s .field;
+      observed = s .observed;
+      tally = record { visits = s .tally .visits; looks = s .tally .looks + 1 };
+      answer = s .answer;
+    }
+
+abbrev pub answering : ObservableOrders → Eos → Eos
+answering o s =
+    record { line = s .line; off = s .off; cache = s .cache; field = s .field; observed = s .observed; tally = s .tally; answer = o }
+
+abbrev pub fielded : ObservableOrders → Eos → Eos
+fielded o s =
+    record { line = s .line; off = s .off; cache = s .cache; field = o; observed = s .observed; tally = s .tally; answer = s .answer }
+
+abbrev pub copied : ℕ → ℕ → Eos → Eos
+copied p c s =
+    record {
+      line = set (s .line) p (getD (s .line) c 0);
+      off = set (s .off) p (getD (s .off) c false);
+      cache = s .cache;
+      field = s .field;
+      observed = s .observed;
+      tally = s .tally;
+      answer = s .answer;
+    }
+
+pub kept-counted : (s : Eos) → Kept s (counted s)
+kept-counted s = record { sized = λ z. record { line = z .line; off = z .off; cache = z .cache }; lower = λ q. le-refl _; visits = refl }
+
+pub kept-answering : (o : ObservableOrders) (s : Eos) → Kept s (answering o s)
+kept-answering o s = record { sized = λ z. record { line = z .line; off = z .off; cache = z .cache }; lower = λ q. le-refl _; visits = refl }
+
+pub kept-fielded : (o : ObservableOrders) (s : Eos) → Kept s (fielded o s)
+kept-fielded o s = record { sized = λ z. record { line = z .line; off = z .off; cache = z .cache }; lower = λ q. le-refl _; visits = refl }
+
+lower-at : (line : List ℕ) (p v : ℕ) → p < length line → v ≤ getD line p 0 → (q : ℕ) (t : Bool) → eqb q p ≡ t → getD (set line p v) q 0 ≤ getD line q 0
+lower-at line p v h k q true i = rw (eqb-true q p i) (rw (getD-set-same line p v 0 h) k)
+lower-at line p v h k q false i = rw (getD-set-other line p q v 0 (eqb-false q p i)) (le-refl _)
+
+pub kept-copied : (p c : ℕ) (s : Eos) → p < length (s .line) → getD (s .line) c 0 ≤ getD (s .line) p 0 → Kept s (copied p c s)
+kept-copied p c s h k =
+    record {
+      sized = λ z. record { line = rw length-set (z .line); off = rw length-set (z .off); cache = z .cache };
+      lower = λ q. lower-at (s .line) p (getD (s .line) c 0) h k q (eqb q p) refl;
+      visits = refl;
+    }
+
+module _ (recs : List ℕ) (n : ℕ) (s : Eos) where
+  pub eos-arena : eos-of recs n s .expr-arena ≡ Rattle.plan.specs.Stored.arena-of recs (s .line) (s .off) n
+  unfolding eos-of
+  eos-arena = refl
+
+  pub eos-cache : eos-of recs n s .revisit-cache ≡ cache-of (s .cache)
+  unfolding eos-of
+  eos-cache = refl
+
+  pub eos-field : eos-of recs n s .struct-field-ordering ≡ s .field
+  unfolding eos-of
+  eos-field = refl
+
+  pub eos-looks : eos-of recs n s .looks ≡ s .tally .looks
+  unfolding eos-of
+  eos-looks = refl
+
+  pub eos-counted : eos-of recs n (counted s) ≡ one-look (eos-of recs n s)
+  unfolding eos-of
+  eos-counted = refl
+
+  pub eos-answering : (o : ObservableOrders) → eos-of recs n (answering o s) ≡ eos-of recs n s
+  unfolding eos-of
+  eos-answering o = refl
+
+  pub eos-fielded : (o : ObservableOrders) → eos-of recs n (fielded o s) ≡ with-field o (eos-of recs n s)
+  unfolding eos-of
+  eos-fielded o = refl
+
+  pub eos-at : (p : ℕ) → p < n → expr-at (eos-of recs n s .expr-arena) p ≡ held recs (getD (s .line) p 0) (getD (s .off) p false)
+  unfolding eos-of
+  eos-at p h = arena-at recs n (s .line) (s .off) p h
+
+  pub eos-copied : (p c : ℕ) → p < n → c < n → p < length (s .line) → p < length (s .off)
+      → eos-of recs n (copied p c s) ≡ with-arena (set (eos-of recs n s .expr-arena) p (expr-at (eos-of recs n s .expr-arena) c)) (eos-of recs n s)
+  unfolding eos-of
+  eos-copied p c h k i j = rw (arena-copied recs n (s .line) (s .off) p h c k i j)
+
+-- The end of a look --------------------------------------------------------------------------------------------------------------
+
+module _ (s : Eos) (p : ℕ) (e : ExprRecord) (v : After) (o field first : ObservableOrders) (within : p < 128) (sized : Sized s)
+    (loses : Bool) (observed : ObservableOrders) (byte entry : ℕ)
+    (loses-is : loses ≡ (same-aexpr (e .kind) AExpr.Implode && yes? (e .option) && is-empty first))
+    (observed-is : observed ≡ s .observed ∪ v .observes)
+    (byte-is : byte ≡ packed o)
+    (entry-is : entry ≡ (if v .caches then byte else getD (s .cache) p 0)) where
+  abbrev ends : Eos
+  ends =
+      record {
+        line = s .line;
+        off = set (s .off) p (getD (s .off) p false || loses);
+        cache = set (s .cache) p entry;
+        field = field;
+        observed = observed;
+        tally = s .tally;
+        answer = o;
+      }
+
+  ends-is : (recs : List ℕ) (n : ℕ) (os : List ObservableOrders) → p < n → getD os 0 ∅ ≡ first
+      → looked-of recs n ends ≡ (o, look-ended p (record-of e) (after-of v) o field os (eos-of recs n s))
+  unfolding eos-of look-ended
+  ends-is recs n os h q =
+      rw (
+        q,
+        ← loses-is,
+        observed-is,
+        entry-is,
+        byte-is,
+        arena-off recs n (s .line) (s .off) p h loses (rw (sized .off) within),
+        cache-written (s .cache) p (rw (sized .cache) within) o (v .caches),
+      )
+
+  pub ended : Ended s p (record-of e) (after-of v) o field first ends
+  ended =
+      record {
+        is = ends-is;
+        kept = record {
+          sized = λ z. record { line = z .line; off = rw length-set (z .off); cache = rw length-set (z .cache) };
+          lower = λ q. le-refl _;
+          visits = refl;
+        };
+      }
+
+-- One answer more ----------------------------------------------------------------------------------------------------------------
+
+module _ (l i : ℕ) (os : List ObservableOrders) (x r : Seen) (o : ObservableOrders) (q : ℕ) (b : Begun l i os x) (a : Adds x o q i r) (below : q < l) where
+  num-is : r .acc .«num_ordered_inputs» ≡ (if is-empty o then x .acc .«num_ordered_inputs» else x .acc .«num_ordered_inputs» + 1)
+  unfolding add
+  num-is = ap (λ (y : Rattle.plan.specs.Orders.ExprOrderAcc). y .num-ordered-inputs) (a .acc)
+
+  last-is : r .acc .«last_ordered_node» ≡ (if is-empty o then x .acc .«last_ordered_node» else q)
+  unfolding add
+  last-is = ap (λ (y : Rattle.plan.specs.Orders.ExprOrderAcc). y .last-ordered-node) (a .acc)
+
+  most-next : (t : Bool) → is-empty o ≡ t → r .acc .«num_ordered_inputs» ≤ i + 1
+  most-next true h = rw (num-is, h) (omega (arith, b .most))
+  most-next false h = rw (num-is, h) (omega (arith, b .most))
+
+  near-next : (t : Bool) → is-empty o ≡ t → 0 < r .acc .«num_ordered_inputs» → r .acc .«last_ordered_node» < l
+  near-next true h k = rw (last-is, h) (b .near (rw (num-is, h) at k))
+  near-next false h k = rw (last-is, h) below
+
+  pub begun-next : Begun l (i + 1) (os ++ (o ∷ [])) r
+  begun-next =
+      record {
+        length-is = length-append os (o ∷ []) ∙ rw (b .length-is);
+        sees = sees-next (b .length-is) (b .sees) a;
+        most = most-next (is-empty o) refl;
+        near = near-next (is-empty o) refl;
+        start = λ z. absurd (omega arith);
+      }

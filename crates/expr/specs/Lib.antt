@@ -1,0 +1,7 @@
+pub mod Cache
+pub mod Acc
+pub mod Record
+pub mod Tables
+pub mod State
+pub mod Contract
+pub mod Projected
