@@ -110,10 +110,6 @@ row-at rows d t k h = row-right k (getD rows k d) (subst (λ m. T (right m (getD
 
 -- The ways through a line's check --------------------------------------------------------------------------------------------
 
-and-false : (a : Bool) → (a && false) ≡ false
-and-false true = refl
-and-false false = refl
-
 module _ (k s l a n : ℕ) where
   pub no-kind : 25 ≤ k → false ≡ expr-numbers-fit k s l a n
   unfolding expr-numbers-fit
