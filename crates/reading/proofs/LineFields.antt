@@ -3,7 +3,7 @@ use mathlib.Core.Path.{_≡_, refl, sym, ap, _∙_}
 use mathlib.Core.Bool.{Bool, true, false, _||_}
 use mathlib.Core.List.{List, [], _∷_, _++_, append-assoc, append-nil}
 use mathlib.Core.Option.{Option, none, some}
-use Prim.Native.Nat.{ℕ, zero, suc, _+_, _-_, _<_, _≤_}
+use Prim.Native.Nat.{ℕ, suc, _+_, _-_, _<_, _≤_}
 use native.Mathlib.Omega.{arith}
 use lib.Dec.{eqb, ltb}
 use lib.ListN.{length, getD, take, drop, set, replicate, length-drop, length-append, length-set, List·getD-append}
@@ -12,11 +12,10 @@ use native.Mathlib.Decide.{ℕ-discrete}
 use native.Mathlib.Nat.{le-refl, not-suc-le-zero}
 use borrow.Author.Tests.{ltb-true, ltb-false, eq-eqb, ne-eqb, eqb-true}
 use Rattle.plan.specs.Lists.{if_then_else_}
-use Rattle.plan.specs.Sheet.{parts, onto, numbers, number, cons?, Line}
+use Rattle.plan.specs.Sheet.{parts, onto, numbers, number, cons?}
 use Rattle.reading.specs.Number.{separator?, field, number-at, found, width}
-use Rattle.reading.specs.Line.{line, ended, numbers-after, numbers-of, field-of, field-at, no-numbers, pushed, Kept, All-read, Numbers-read}
+use Rattle.reading.specs.Line.{line, ended, numbers-after, numbers-of, field-of, field-at, no-numbers, pushed, Kept, Numbers-read}
 use Rattle.reading.specs.declared.number.Number.{Number}
-use Rattle.reading.specs.declared.number.Number.the-variants.{Value, Bad}
 use Rattle.reading.specs.declared.line.Field.{Field}
 use Rattle.reading.specs.declared.line.Numbers.{Numbers}
 

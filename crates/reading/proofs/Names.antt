@@ -1,20 +1,20 @@
 -- Namings and their counts.
 use mathlib.Core.Path.{_≡_, refl, sym, ap, _∙_}
 use mathlib.Core.Bool.{Bool, true, false, _&&_, _||_, not}
-use mathlib.Core.List.{List, [], _∷_, _++_, append-assoc, append-nil, map}
+use mathlib.Core.List.{List, [], _∷_, _++_, append-assoc, append-nil}
 use Prim.Native.Nat.{ℕ, zero, suc, _+_, _*_, _-_, _<_, _≤_}
 use native.Mathlib.Numerals.{add-one}
 use native.Mathlib.Omega.{arith}
 use native.Mathlib.Decide.{ℕ-discrete}
-use lib.Dec.{eqb, ltb, leb}
+use lib.Dec.{eqb, leb}
 use lib.ListN.{length, getD, take, drop, set, replicate, length-set, length-drop, getD-replicate, length-replicate}
 use lib.Seq.{getD-set-same, getD-set-other, take-suc, getD-drop}
-use borrow.Author.Tests.{ltb-true, ltb-false, lt-ltb, le-ltb, le-leb, lt-leb, eq-eqb, ne-eqb}
+use borrow.Author.Tests.{le-leb, lt-leb, eq-eqb, ne-eqb}
 use Rattle.plan.specs.declared.ir.IR.{IR}
-use Rattle.plan.specs.Kinds.{ir, ir-number, same-ir}
+use Rattle.plan.specs.Kinds.{same-ir}
 use Rattle.plan.specs.Lists.{if_then_else_, all?, select, sum, concat-map, numbered, times}
-use Rattle.plan.specs.Sheet.{Expr, Step, Sheet}
-use Rattle.plan.specs.Faults.{exprs-named, named, use-right, cache-ids, uses-right}
+use Rattle.plan.specs.Sheet.{Expr, Step}
+use Rattle.plan.specs.Faults.{exprs-named, named, cache-ids, uses-right}
 use Rattle.plan.specs.Stored.{stored-expr, stored-step, stored-exprs, stored-steps, table}
 use Rattle.reading.specs.Held.{children-of, count-of, both, sheet}
 use Rattle.reading.specs.Uses.{capped, Counted, all-children, all-both, id-of, used, exprs-once, steps-used, ids-once, once-in, used-in, id-once-in}

@@ -1,15 +1,14 @@
 -- The number that the first four bytes tell is that of the first field.
 use mathlib.Core.Path.{_≡_, refl, sym, ap, _∙_}
-use mathlib.Core.Logic.{_⊎_, inl, inr}
-use mathlib.Core.Bool.{Bool, true, false, _&&_, _||_}
+use mathlib.Core.Bool.{Bool, true, false, _&&_}
 use mathlib.Core.List.{List, [], _∷_}
-use mathlib.Core.Option.{Option, none, some}
+use mathlib.Core.Option.{none, some}
 use Prim.Native.Nat.{ℕ, zero, suc, _+_, _*_, _-_, _<_, _≤_}
 use native.Mathlib.Omega.{arith}
 use native.Mathlib.Decide.{decLe, ℕ-discrete}
-use lib.Dec.{T, eqb, ltb, leb}
+use lib.Dec.{eqb, leb}
 use lib.ListN.{length, getD, drop}
-use borrow.Author.Tests.{ltb-true, ltb-false, eqb-true, lt-ltb, le-ltb, le-leb, lt-leb, eq-eqb, ne-eqb}
+use borrow.Author.Tests.{lt-ltb, le-ltb, le-leb, lt-leb, eq-eqb, ne-eqb}
 use Rattle.plan.specs.Lists.{if_then_else_}
 use Rattle.plan.specs.Sheet.{value, number, at-most}
 use Rattle.reading.specs.Number.{separator?, field, found, number-at, digit-of, digit-at, number-of}

@@ -1,19 +1,18 @@
 -- The plan of a sheet.
 use mathlib.Core.Path.{_≡_, refl, sym, ap, _∙_, subst}
-use mathlib.Core.Bool.{Bool, true, false, _&&_, not}
-use mathlib.Core.List.{List, [], _∷_}
-use Prim.Native.Nat.{ℕ, zero, suc, _<_, _≤_}
+use mathlib.Core.Bool.{Bool, true, false, _&&_}
+use mathlib.Core.List.{List}
+use Prim.Native.Nat.{ℕ, _<_, _≤_}
 use native.Mathlib.Omega.{arith}
-use lib.Dec.{ltb}
 use lib.ListN.{length}
 use borrow.Author.Tests.{lt-ltb, le-ltb}
-use Rattle.plan.specs.Lists.{all?, numbered, empty?}
+use Rattle.plan.specs.Lists.{all?, numbered}
 use Rattle.plan.specs.Sheet.{Sheet, Outcome, refused, done, _then_, refuse_when_else_, read, read-lines, parts, no-lines, no-plan}
 use Rattle.plan.specs.Faults.{checked, references-right, uses-right, fields-right, children-earlier}
-use Rattle.plan.specs.Stored.{stored-expr, stored-step, stored-exprs, stored-steps, table}
-use Rattle.reading.specs.Held.{Exprs-held, Step-held, Steps-held, sheet}
-use Rattle.reading.specs.Lines.{Sound, All-taken, Lines-read, sheet-of}
-use Rattle.reading.specs.Plan.{plan-of, checked-plan, Held-plan, Plan-is, Plan-held}
+use Rattle.plan.specs.Stored.{stored-expr, stored-step, stored-exprs, stored-steps}
+use Rattle.reading.specs.Held.{Exprs-held, Steps-held, sheet}
+use Rattle.reading.specs.Lines.{Sound, All-taken, Lines-read}
+use Rattle.reading.specs.Plan.{plan-of, checked-plan, Plan-is}
 use Rattle.reading.specs.declared.lines.Tally.{Tally}
 use Rattle.reading.specs.declared.lines.Lines.{Lines}
 use Rattle.reading.specs.declared.Plan.{Plan}

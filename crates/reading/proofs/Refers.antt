@@ -1,21 +1,21 @@
 -- References, as the loops find them.
 use mathlib.Core.Path.{_≡_, refl, sym, ap, _∙_}
 use mathlib.Core.Bool.{Bool, true, false, _&&_, not}
-use mathlib.Core.List.{List, [], _∷_, _++_}
-use Prim.Native.Nat.{ℕ, zero, suc, _+_, _*_, _-_, _<_, _≤_}
+use mathlib.Core.List.{List, [], _∷_}
+use Prim.Native.Nat.{ℕ, _+_, _*_, _-_, _<_, _≤_}
 use native.Mathlib.Omega.{arith}
 use lib.Dec.{eqb, ltb}
 use lib.ListN.{length, getD, take, drop}
 use borrow.Author.Tests.{ltb-true, lt-ltb, le-ltb, eq-eqb, ne-eqb}
 use Rattle.plan.specs.declared.ir.IR.{IR}
-use Rattle.plan.specs.Kinds.{ir, ir-number, same-ir}
+use Rattle.plan.specs.Kinds.{same-ir}
 use Rattle.plan.specs.Lists.{all?, numbered}
-use Rattle.plan.specs.Sheet.{Expr, Step, Sheet, step-at, no-step}
+use Rattle.plan.specs.Sheet.{Expr, Step, step-at, no-step}
 use Rattle.plan.specs.Faults.{children-earlier, inputs-earlier, exprs-there, references-right}
-use Rattle.plan.specs.Stored.{stored-expr, stored-step, stored-exprs, stored-steps, table}
+use Rattle.plan.specs.Stored.{stored-expr, stored-step, stored-exprs, stored-steps}
 use Rattle.reading.specs.Held.{children-of, count-of, both, before-no-sink, sheet}
 use Rattle.reading.proofs.Stores.{table-length}
-use Rattle.reading.proofs.Scans.{numbers-from, children-are, inputs-are, both-are, step-kind, step-kind-is, table-at, lines-from, from-first}
+use Rattle.reading.proofs.Scans.{children-are, inputs-are, both-are, step-kind, step-kind-is, table-at, lines-from, from-first}
 
 pub all-same : {A : Type 0} (f g : A → Bool) → ((x : A) → f x ≡ g x) → (l : List A) → all? f l ≡ all? g l
 unfolding all?

@@ -1,14 +1,14 @@
 -- The rows of the tables.
 use mathlib.Core.Path.{_≡_, refl, sym, ap, _∙_, subst}
-use mathlib.Core.Bool.{Bool, true, false, _&&_, _||_, not}
+use mathlib.Core.Bool.{Bool, true, false, _&&_, _||_}
 use mathlib.Core.List.{List, [], _∷_}
 use Prim.Native.Nat.{ℕ, zero, suc, _+_, _-_, _<_, _≤_}
 use native.Mathlib.Omega.{arith}
-use lib.Dec.{T, eqb, ltb, leb, eqb→eq, leb→le}
-use lib.ListN.{length, getD, take, drop, length-drop, List·getD-eq-default}
-use borrow.Author.Tests.{ltb-true, lt-ltb, le-ltb, le-leb, lt-leb, eq-eqb, ne-eqb, leb-true, eqb-true}
-use Rattle.plan.specs.Lists.{yes?, among}
-use Rattle.plan.specs.Sheet.{expr-table, step-table}
+use lib.Dec.{T, eqb, leb, eqb→eq, leb→le}
+use lib.ListN.{length, getD, List·getD-eq-default}
+use borrow.Author.Tests.{lt-ltb, le-ltb, le-leb, lt-leb, eq-eqb, ne-eqb, leb-true}
+use Rattle.plan.specs.Lists.{among}
+use Rattle.plan.specs.Sheet.{step-table}
 use Rattle.reading.specs.Tables.{row-of, row, expr-numbers-fit, limits, counts, most-a, most-b, most-c, inputs, exprs, most-aggs, within, step-numbers-fit}
 use Rattle.reading.specs.declared.tables.Row.{Row}
 use Rattle.reading.specs.declared.tables.Counts.{Counts}
@@ -109,10 +109,6 @@ pub row-at : (rows : List Row) (d : Row) → T (every right 0 rows) → (k : ℕ
 row-at rows d t k h = row-right k (getD rows k d) (subst (λ m. T (right m (getD rows k d))) (omega arith) (at right 0 rows d t k h))
 
 -- The ways through a line's check --------------------------------------------------------------------------------------------
-
-and-false : (a : Bool) → (a && false) ≡ false
-and-false true = refl
-and-false false = refl
 
 module _ (k s l a n : ℕ) where
   pub no-kind : 25 ≤ k → false ≡ expr-numbers-fit k s l a n

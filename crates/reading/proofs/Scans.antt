@@ -1,11 +1,11 @@
 -- Loops that test each entry of a list in turn.
-use mathlib.Core.Path.{_≡_, refl, sym, ap, _∙_}
+use mathlib.Core.Path.{_≡_, sym, ap, _∙_}
 use mathlib.Core.Bool.{Bool, true, false, _&&_}
 use mathlib.Core.List.{List, [], _∷_, _++_}
 use Prim.Native.Nat.{ℕ, zero, suc, _+_, _*_, _-_, _<_, _≤_}
 use native.Mathlib.Numerals.{add-one}
 use native.Mathlib.Omega.{arith}
-use lib.Dec.{eqb, ltb, leb}
+use lib.Dec.{eqb}
 use lib.ListN.{length, getD, take, drop, List·getD-eq-default}
 use lib.Seq.{drop-cons, drop-drop, getD-take, getD-drop, take-add}
 use native.Mathlib.Decide.{decLe}
@@ -15,7 +15,7 @@ use Rattle.plan.specs.declared.ir.IR.{IR}
 use Rattle.plan.specs.Kinds.{aexprs, aexpr, aexpr-number, irs, ir, ir-number}
 use Rattle.plan.specs.KindNumbers.{aexpr-there, ir-there}
 use Rattle.plan.specs.Lists.{all?, numbered}
-use Rattle.plan.specs.Sheet.{Expr, Step, expr-of, step-of}
+use Rattle.plan.specs.Sheet.{expr-of, step-of}
 use Rattle.plan.specs.Stored.{stored-expr, stored-step, table}
 use Rattle.reading.specs.Held.{children-of, count-of, both}
 use Rattle.reading.proofs.Stores.{drop-take}

@@ -1,19 +1,19 @@
 -- From one line at the front of the bytes to all lines.
 use mathlib.Core.Path.{_≡_, refl, sym, ap, _∙_, subst}
-use mathlib.Core.Bool.{Bool, true, false, _&&_, _||_, not}
-use mathlib.Core.List.{List, [], _∷_, _++_}
+use mathlib.Core.Bool.{Bool, true, false, _&&_}
+use mathlib.Core.List.{List, [], _∷_}
 use mathlib.Core.Option.{Option, none, some}
-use Prim.Native.Nat.{ℕ, zero, suc, _+_, _*_, _-_, _<_, _≤_}
+use Prim.Native.Nat.{ℕ, suc, _-_, _<_, _≤_}
 use native.Mathlib.Omega.{arith}
 use native.Mathlib.Nat.{not-suc-le-zero}
-use lib.Dec.{eqb, ltb, leb}
-use lib.ListN.{length, getD, take, drop, length-drop}
-use borrow.Author.Tests.{eq-eqb, ne-eqb, eqb-true}
+use lib.Dec.{eqb}
+use lib.ListN.{length, getD, take, drop}
+use borrow.Author.Tests.{ne-eqb}
 use Rattle.plan.specs.Lists.{if_then_else_, empty?, same, sum}
-use Rattle.plan.specs.Sheet.{Sheet, Line, Outcome, refused, done, _then_, parts, onto, numbers, lettered, line-of, read-line, read-lines, no-lines}
+use Rattle.plan.specs.Sheet.{Sheet, Line, refused, done, _then_, parts, onto, numbers, lettered, line-of, read-line, read-lines, no-lines}
 use Rattle.plan.specs.Stored.{stored-exprs, stored-steps, table}
 use Rattle.reading.specs.Line.{line, ended, line-here, numbers-after, numbers-of}
-use Rattle.reading.specs.Lines.{sheet-of, agg-entries, Sound, Line-taken, Line-read, All-taken, Lines-read}
+use Rattle.reading.specs.Lines.{sheet-of, agg-entries, Sound, Line-taken, Line-read, All-taken}
 use Rattle.reading.specs.declared.lines.Tally.{Tally}
 use Rattle.reading.specs.declared.lines.Reading.{Reading}
 use Rattle.reading.specs.declared.lines.Reading.the-variants.{Taken, Refused}

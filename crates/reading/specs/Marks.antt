@@ -1,9 +1,8 @@
 -- The marks that the code gives E lines, from the last line to the first.
-use Prim.Native.Nat.{ℕ, zero, suc, _-_, _*_}
+use Prim.Native.Nat.{ℕ, zero, suc, _-_}
 use mathlib.Core.Bool.{Bool, _||_, not}
 use mathlib.Core.List.{List, [], _++_}
-use lib.Dec.{eqb, leb}
-use lib.ListN.{getD}
+use lib.Dec.{leb}
 use Rattle.plan.specs.declared.aexpr.AExpr.{AExpr}
 use Rattle.plan.specs.Kinds.{same-aexpr}
 use Rattle.plan.specs.Lists.{if_then_else_, times, rest}

@@ -1,14 +1,12 @@
 -- What reading a sheet comes to.
 use mathlib.Core.Path.{_≡_}
-use Prim.Native.Nat.{ℕ, _≤_}
-use mathlib.Core.Bool.{Bool}
+use Prim.Native.Nat.{ℕ}
 use mathlib.Core.List.{List}
 use lib.ListN.{length}
 use Rattle.plan.specs.Sheet.{Sheet, Outcome, refused, done, _then_, refuse_when_else_, read, no-plan}
 use Rattle.plan.specs.Faults.{checked}
 use Rattle.plan.specs.Stored.{stored-exprs, stored-steps}
 use Rattle.reading.specs.Held.{Exprs-held, Steps-held}
-use Rattle.reading.specs.declared.Counts.{Counts}
 use Rattle.reading.specs.declared.Plan.{Plan}
 use Rattle.reading.specs.declared.Plan.the-variants.{Taken, Refused}
 

@@ -10,7 +10,6 @@ use Rattle.plan.specs.Kinds.{same-ir}
 use Rattle.plan.specs.Lists.{if_then_else_, all?, concat-map, numbered, times}
 use Rattle.plan.specs.Sheet.{Expr, Step, Sheet}
 use Rattle.plan.specs.Faults.{exprs-named, named, use-right, cache-ids}
-use Rattle.reading.specs.Held.{both}
 
 unfoldable pub capped : ℕ → ℕ
 capped zero = 0

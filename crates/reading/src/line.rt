@@ -1,6 +1,6 @@
 // The numbers of a line: each behind a comma, up to byte 10.
 ghost use mathlib.Core.Path.{_≡_};
-ghost use Prim.Native.Nat.{_+_, _≤_, _<_, _^_};
+ghost use Prim.Native.Nat.{_+_, _<_, _^_};
 ghost use lib.ListN.{length};
 ghost use Rattle.reading.specs.Number.{width};
 ghost use Rattle.reading.specs.Line.{field-of, field-at, no-numbers, pushed, Numbers-read};

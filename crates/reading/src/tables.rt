@@ -3,7 +3,7 @@ ghost use mathlib.Core.Path.{_≡_};
 ghost use mathlib.Core.Bool.{true, _&&_};
 ghost use Prim.Native.Nat.{_+_, _≤_, _<_};
 ghost use lib.Dec.{leb};
-ghost use Rattle.reading.specs.Tables.{row, expr-numbers-fit, counts, most-a, most-b, most-c, inputs, exprs, most-aggs, within, step-numbers-fit};
+ghost use Rattle.reading.specs.Tables.{row, expr-numbers-fit, most-a, most-b, most-c, inputs, exprs, most-aggs, within, step-numbers-fit};
 
 // The fewest and the most children of an expression, and its largest option.
 pub struct Row {

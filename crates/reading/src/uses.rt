@@ -1,13 +1,13 @@
 // How often the lines are named, and the ids of Cache lines (refusal 8). Counts go to 2, which stands for more as well.
 ghost use mathlib.Core.Path.{_≡_};
-ghost use mathlib.Core.Bool.{_&&_, _||_, not};
+ghost use mathlib.Core.Bool.{_||_, not};
 ghost use mathlib.Core.List.{List, [], _∷_, _++_};
 ghost use Prim.Native.Nat.{ℕ, _+_, _*_, _≤_, _<_};
-ghost use lib.Dec.{eqb, leb};
+ghost use lib.Dec.{eqb};
 ghost use lib.ListN.{length, take, drop};
 ghost use Rattle.plan.specs.Lists.{all?, numbered, times};
 ghost use Rattle.plan.specs.Faults.{cache-ids, named, uses-right};
-ghost use Rattle.plan.specs.Stored.{stored-expr, stored-step, stored-exprs, stored-steps};
+ghost use Rattle.plan.specs.Stored.{stored-exprs, stored-steps};
 ghost use Rattle.reading.specs.Held.{Exprs-held, Steps-held, sheet};
 ghost use Rattle.reading.specs.Uses.{Counted, all-children, all-both, exprs-once, steps-used, ids-once, used, id-of, once-in, used-in, id-once-in};
 

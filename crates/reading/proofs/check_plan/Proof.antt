@@ -4,41 +4,28 @@ use Rattle.reading.proofs.Plans.{refuses, no-step, bad-reference, bad-u
 use borrow.Author.Needs.{needs}
 use Rattle.reading.proofs.check_plan.Statement.{statement}
 use Rattle.reading.proofs.check_plan.Tie as tie
-use Rattle.reading.proofs.check_plan.Reads as reads
-use Rattle.reading.proofs.check_plan.Lts as lts
-use Rattle.reading.proofs.fields.fields_right.Reads as fields-right-reads
-use Rattle.reading.proofs.references.references_right.Reads as references-right-reads
-use Rattle.reading.proofs.uses.uses_right.Reads as uses-right-reads
 
--- src/lib.rt:32:9
 returns : tie.Need-returns
 returns c = (refuses _ _ _ 6 (no-step (c .before .args .exprs .now) (c .before .args .steps .now) (c .before .args .count) (c .before .args .n) (omega arith)), tt)
 
--- src/lib.rt:34:9
 references-right-requires : tie.Need-references-right-requires
 references-right-requires c κs = search needs
 
--- src/lib.rt:35:9
 returns-2 : tie.Need-returns-2
 returns-2 c = (refuses _ _ _ 7 (bad-reference (c .before .before .before .args .exprs .now) (c .before .before .before .args .steps .now) (c .before .before .before .args .count) (c .before .before .before .args .n) (c .before .before .if1 .left) (c .before .references-right .ensures) (not-true _ (c .if2 .taken))), tt)
 
--- src/lib.rt:37:9
 uses-right-requires : tie.Need-uses-right-requires
 uses-right-requires c κs = search needs
 
--- src/lib.rt:38:9
 returns-3 : tie.Need-returns-3
 returns-3 c = (refuses _ _ _ 8 (bad-use (c .before .before .before .before .before .args .exprs .now) (c .before .before .before .before .before .args .steps .now) (c .before .before .before .before .before .args .count) (c .before .before .before .before .before .args .n) (c .before .before .before .before .if1 .left) (c .before .before .before .references-right .ensures) (not-false _ (c .before .before .if2 .left)) (c .before .uses-right .ensures) (not-true _ (c .if3 .taken))), tt)
 
--- src/lib.rt:40:9
 fields-right-requires : tie.Need-fields-right-requires
 fields-right-requires c κs = search needs
 
--- src/lib.rt:41:9
 returns-4 : tie.Need-returns-4
 returns-4 c = (refuses _ _ _ 9 (bad-field (c .before .before .before .before .before .before .before .args .exprs .now) (c .before .before .before .before .before .before .before .args .steps .now) (c .before .before .before .before .before .before .before .args .count) (c .before .before .before .before .before .before .before .args .n) (c .before .before .before .before .before .before .if1 .left) (c .before .before .before .before .before .references-right .ensures) (not-false _ (c .before .before .before .before .if2 .left)) (c .before .before .before .uses-right .ensures) (not-false _ (c .before .before .if3 .left)) (c .before .fields-right .ensures (children-early (c .before .before .before .before .before .before .before .args .exprs .now) (c .before .before .before .before .before .before .before .args .steps .now) (c .before .before .before .before .before .before .before .args .count) (c .before .before .before .before .before .before .before .args .n) (c .before .before .before .before .before .before .if1 .left) (c .before .before .before .before .before .references-right .ensures) (not-false _ (c .before .before .before .before .if2 .left)))) (not-true _ (c .if4 .taken))), tt)
 
--- src/lib.rt:27:1
 returns-5 : tie.Need-returns-5
 returns-5 c = (taken (c .before .before .before .before .before .before .before .args .exprs .now) (c .before .before .before .before .before .before .before .args .steps .now) (c .before .before .before .before .before .before .before .args .count) (c .before .before .before .before .before .before .before .args .n) _ (good (c .before .before .before .before .before .before .before .args .exprs .now) (c .before .before .before .before .before .before .before .args .steps .now) (c .before .before .before .before .before .before .before .args .count) (c .before .before .before .before .before .before .before .args .n) (c .before .before .before .before .before .before .if1 .left) (c .before .before .before .before .before .references-right .ensures) (not-false _ (c .before .before .before .before .if2 .left)) (c .before .before .before .uses-right .ensures) (not-false _ (c .before .before .if3 .left)) (c .before .fields-right .ensures (children-early (c .before .before .before .before .before .before .before .args .exprs .now) (c .before .before .before .before .before .before .before .args .steps .now) (c .before .before .before .before .before .before .before .args .count) (c .before .before .before .before .before .before .before .args .n) (c .before .before .before .before .before .before .if1 .left) (c .before .before .before .before .before .references-right .ensures) (not-false _ (c .before .before .before .before .if2 .left)))) (not-false _ (c .if4 .left))), c .before .before .before .before .before .before .before .pre)
 

@@ -2,37 +2,26 @@ use Rattle.reading.proofs.Plans.{refuses, too-long, bad-line, good-line
 use borrow.Author.Needs.{needs}
 use Rattle.reading.proofs.read_plan.Statement.{statement}
 use Rattle.reading.proofs.read_plan.Tie as tie
-use Rattle.reading.proofs.read_plan.Reads as reads
-use Rattle.reading.proofs.read_plan.Lts as lts
-use Rattle.reading.proofs.check_plan.Reads as check-plan-reads
-use Rattle.reading.proofs.lines.read_lines.Reads as read-lines-reads
 
--- src/lib.rt:55:9
 returns : tie.Need-returns
 returns c = (refuses _ _ _ 2 (too-long (c .before .before .args .sheet .now) (c .if1 .taken)), tt)
 
--- src/lib.rt:57:11
 read-lines-requires : tie.Need-read-lines-requires
 read-lines-requires c κs = search needs
 
--- src/lib.rt:58:24
 enum-known-k : tie.Need-enum-known-k
 enum-known-k c = search needs
 
--- src/lib.rt:59:21
 enum-known-t : tie.Need-enum-known-t
 enum-known-t c = search needs
 
--- src/lib.rt:59:27
 check-plan-requires : tie.Need-check-plan-requires
 check-plan-requires c κs = let r = read-is (c .before .before .before .before .before .before .before .before .before .before .args .sheet .now) (c .before .before .before .before .before .read-lines .last .1 .0) (c .before .before .before .before .before .read-lines .last .1 .1 .0) _ _ (c .before .before .before .before .before .read-lines .ensures) (c .before .before .before .t .given .1) .sound in
     (held-exprs r, held-steps r)
 
--- src/lib.rt:51:1
 returns-2 : tie.Need-returns-2
 returns-2 c = (refuses _ _ _ _ (bad-line (c .before .before .before .before .before .before .before .before .args .sheet .now) (c .before .before .before .before .before .before .if1 .left) _ (refused-is (c .before .before .before .before .before .before .before .before .args .sheet .now) (c .before .before .before .read-lines .last .1 .0) (c .before .before .before .read-lines .last .1 .1 .0) _ _ (c .before .before .before .read-lines .ensures) (c .before .k .given .1))), tt)
 
--- src/lib.rt:51:1
 returns-3 : tie.Need-returns-3
 returns-3 c = let r = read-is (c .before .before .before .before .before .before .before .before .before .before .before .args .sheet .now) (c .before .before .before .before .before .before .read-lines .last .1 .0) (c .before .before .before .before .before .before .read-lines .last .1 .1 .0) _ _ (c .before .before .before .before .before .before .read-lines .ensures) (c .before .before .before .before .t .given .1) in
     (same-plan _ _ _ _ _ (good-lines (c .before .before .before .before .before .before .before .before .before .before .before .args .sheet .now) (c .before .before .before .before .before .before .before .before .before .if1 .left) _ (r .taken)) (c .check-plan .ensures .0), c .check-plan .ensures .1)

@@ -13,9 +13,6 @@ use Rattle.reading.proofs.Scans.{lines-from, line-fails, line-passes, l
 use Rattle.reading.proofs.Refers.{exprs-first}
 use Rattle.reading.proofs.fields.fields_marked.Statement.{statement}
 use Rattle.reading.proofs.fields.fields_marked.Tie as tie
-use Rattle.reading.proofs.fields.fields_marked.Reads as reads
-use Rattle.reading.proofs.fields.fields_marked.Lts as lts
-use Rattle.reading.proofs.fields.field_right.Reads as field-right-reads
 
 abbrev Inv-loop : tie.InvT-loop
 Inv-loop marks exprs n i₀ i = (i ≤ n) × ((names : List ℕ) → Counted marks names → all? (field-marked names) (numbered 0 (stored-exprs exprs n)) ≡ lines-from (field-marked names) (stored-expr exprs) n i)
@@ -23,43 +20,33 @@ Inv-loop marks exprs n i₀ i = (i ≤ n) × ((names : List ℕ) → Counted mar
 abbrev μ-loop : tie.MeasureT-loop
 μ-loop marks exprs n i₀ i = n - i
 
--- src/fields.rt:62:5
 loop-holds : tie.Need-loop-holds Inv-loop μ-loop
 loop-holds c = (omega arith, λ names k. exprs-first (field-marked names) (c .args .exprs .now) (c .args .n))
 
--- src/fields.rt:63:31
 mul-field-right : tie.Need-mul-field-right Inv-loop μ-loop
 mul-field-right c = omega arith
 
--- src/fields.rt:63:25
 element-copy-out-field-right : tie.Need-element-copy-out-field-right Inv-loop μ-loop
 element-copy-out-field-right c = omega arith
 
--- src/fields.rt:63:40
 element-copy-out-field-right-2 : tie.Need-element-copy-out-field-right-2 Inv-loop μ-loop
 element-copy-out-field-right-2 c = omega arith
 
--- src/fields.rt:63:13
 field-right-requires : tie.Need-field-right-requires Inv-loop μ-loop
 field-right-requires c κs = search needs
 
--- src/fields.rt:64:13
 returns : tie.Need-returns Inv-loop μ-loop
 returns c = λ names k. line-fails (field-marked names) (stored-expr (c .before .before .before .before .before .before .args .exprs .now)) (c .before .before .before .before .before .before .args .n) (c .before .before .before .before .before .loop .i) (c .before .before .before .before .loop-test .taken) (sym (field-is _ _ names (c .before .before .before .before .before .loop .i) (omega arith) k (c .before .field-right .ensures)) ∙ not-true _ (c .if1 .taken)) (c .before .before .before .before .before .loop .inv .1 names k)
 
--- src/fields.rt:66:9
 add-i : tie.Need-add-i Inv-loop μ-loop
 add-i c = omega arith
 
--- src/fields.rt:62:5
 loop-less : tie.Need-loop-less Inv-loop μ-loop
 loop-less c = omega arith
 
--- src/fields.rt:62:5
 loop-again : tie.Need-loop-again Inv-loop μ-loop
 loop-again c = (omega arith, λ names k. line-passes (field-marked names) (stored-expr (c .before .before .before .before .before .before .args .exprs .now)) (c .before .before .before .before .before .before .args .n) (c .before .before .before .before .before .loop .i) (c .before .before .before .before .loop-test .taken) (sym (field-is _ _ names (c .before .before .before .before .before .loop .i) (omega arith) k (c .before .field-right .ensures)) ∙ not-false _ (c .if1 .left)) (c .before .before .before .before .before .loop .inv .1 names k))
 
--- src/fields.rt:57:1
 returns-2 : tie.Need-returns-2 Inv-loop μ-loop
 returns-2 c = λ names k. lines-pass (field-marked names) (stored-expr (c .before .before .args .exprs .now)) (c .before .before .args .n) (c .before .loop .i) (omega arith) (c .before .loop .inv .1 names k)
 

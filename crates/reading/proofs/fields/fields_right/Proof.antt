@@ -3,20 +3,13 @@ use Rattle.reading.proofs.Marking.{fields-are}
 use borrow.Author.Needs.{needs}
 use Rattle.reading.proofs.fields.fields_right.Statement.{statement}
 use Rattle.reading.proofs.fields.fields_right.Tie as tie
-use Rattle.reading.proofs.fields.fields_right.Reads as reads
-use Rattle.reading.proofs.fields.fields_right.Lts as lts
-use Rattle.reading.proofs.fields.fields_marked.Reads as fields-marked-reads
-use Rattle.reading.proofs.fields.mark_lines.Reads as mark-lines-reads
 
--- src/fields.rt:76:5
 mark-lines-requires : tie.Need-mark-lines-requires
 mark-lines-requires c κs = search needs
 
--- src/fields.rt:77:5
 fields-marked-requires : tie.Need-fields-marked-requires
 fields-marked-requires c κs = search needs
 
--- src/fields.rt:71:1
 returns : tie.Need-returns
 returns c = λ e. fields-are (c .before .before .before .before .args .exprs .now) (c .before .before .before .before .args .n) e (c .fields-marked .ensures _ (c .before .before .mark-lines .ensures none-counted))
 

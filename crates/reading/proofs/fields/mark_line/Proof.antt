@@ -3,80 +3,58 @@ use Rattle.reading.proofs.Marking.{mark-children, mark-other, mark-none
 use borrow.Author.Needs.{needs}
 use Rattle.reading.proofs.fields.mark_line.Statement.{statement}
 use Rattle.reading.proofs.fields.mark_line.Tie as tie
-use Rattle.reading.proofs.fields.mark_line.Reads as reads
-use Rattle.reading.proofs.fields.mark_line.Lts as lts
-use Rattle.reading.proofs.fields.wide.Reads as wide-reads
-use Rattle.reading.proofs.uses.count_all.Reads as count-all-reads
 
--- src/fields.rt:25:24
 mul-wide : tie.Need-mul-wide
 mul-wide c = search needs
 
--- src/fields.rt:25:24
 add-wide : tie.Need-add-wide
 add-wide c = search needs
 
--- src/fields.rt:25:18
 element-copy-out-wide : tie.Need-element-copy-out-wide
 element-copy-out-wide c = search needs
 
--- src/fields.rt:25:9
 wide-requires : tie.Need-wide-requires
 wide-requires c κs = search needs
 
--- src/fields.rt:26:13
 element-copy-out-if1 : tie.Need-element-copy-out-if1
 element-copy-out-if1 c = search needs
 
--- src/fields.rt:27:46
 mul-count-all : tie.Need-mul-count-all
 mul-count-all c = search needs
 
--- src/fields.rt:27:46
 add-count-all : tie.Need-add-count-all
 add-count-all c = search needs
 
--- src/fields.rt:27:9
 count-all-requires : tie.Need-count-all-requires
 count-all-requires c κs = search needs
 
--- src/fields.rt:28:9
 returns : tie.Need-returns
 returns c = mark-children (c .before .before .before .before .before .before .before .args .exprs .now) (c .before .before .before .before .before .before .before .args .marks .now) (c .before .before .before .before .before .before .before .args .i) (omega arith) _ _ (c .before .before .before .before .before .wide .ensures .0) (omega arith) (c .count-all .ensures)
 
--- src/fields.rt:30:14
 mul-if2 : tie.Need-mul-if2
 mul-if2 c = search needs
 
--- src/fields.rt:30:8
 element-copy-out-if2 : tie.Need-element-copy-out-if2
 element-copy-out-if2 c = search needs
 
--- src/fields.rt:31:9
 returns-2 : tie.Need-returns-2
 returns-2 c = mark-other (c .before .before .before .before .before .before .args .exprs .now) (c .before .before .before .before .before .before .args .marks .now) (c .before .before .before .before .before .before .args .i) (omega arith) (omega arith) (c .if2 .taken)
 
--- src/fields.rt:34:9
 returns-3 : tie.Need-returns-3
 returns-3 c = mark-none (c .before .before .before .before .before .before .before .args .exprs .now) (c .before .before .before .before .before .before .before .args .marks .now) (c .before .before .before .before .before .before .before .args .i) (omega arith) _ (c .before .before .before .before .before .wide .ensures .0) (omega arith) (omega arith) (omega arith)
 
--- src/fields.rt:36:42
 mul-count-all-2 : tie.Need-mul-count-all-2
 mul-count-all-2 c = search needs
 
--- src/fields.rt:36:42
 add-count-all-2 : tie.Need-add-count-all-2
 add-count-all-2 c = search needs
 
--- src/fields.rt:36:54
 sub-count-all : tie.Need-sub-count-all
 sub-count-all c = search needs
 
--- src/fields.rt:36:5
 count-all-requires-2 : tie.Need-count-all-requires-2
 count-all-requires-2 c κs = search needs
 
--- src/fields.rt:21:1
 returns-4 : tie.Need-returns-4
 returns-4 c = mark-evaluation (c .before .before .before .before .before .before .before .before .before .before .args .exprs .now) (c .before .before .before .before .before .before .before .before .before .before .args .marks .now) (c .before .before .before .before .before .before .before .before .before .before .args .i) (omega arith) _ _ (c .before .before .before .before .before .before .before .before .wide .ensures .0) (omega arith) (omega arith) (c .before .before .before .if3 .left) (c .count-all2 .ensures)
 

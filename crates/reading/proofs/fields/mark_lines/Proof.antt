@@ -7,9 +7,6 @@ use Rattle.reading.specs.Marks.{markings}
 use Rattle.reading.proofs.Marking.{no-marks, more-marks}
 use Rattle.reading.proofs.fields.mark_lines.Statement.{statement}
 use Rattle.reading.proofs.fields.mark_lines.Tie as tie
-use Rattle.reading.proofs.fields.mark_lines.Reads as reads
-use Rattle.reading.proofs.fields.mark_lines.Lts as lts
-use Rattle.reading.proofs.fields.mark_line.Reads as mark-line-reads
 
 abbrev Inv-loop : tie.InvT-loop
 Inv-loop marks₀ exprs n k₀ marks k = (k ≤ n) × (Counted marks₀ [] → Counted marks (markings exprs n k))
@@ -17,31 +14,24 @@ Inv-loop marks₀ exprs n k₀ marks k = (k ≤ n) × (Counted marks₀ [] → C
 abbrev μ-loop : tie.MeasureT-loop
 μ-loop marks₀ exprs n k₀ marks k = n - k
 
--- src/fields.rt:44:5
 loop-holds : tie.Need-loop-holds Inv-loop μ-loop
 loop-holds c = (omega arith, no-marks _ _ _)
 
--- src/fields.rt:45:9
 add-k : tie.Need-add-k Inv-loop μ-loop
 add-k c = omega (arith, c .before .before .pre .few)
 
--- src/fields.rt:46:33
 sub-mark-line : tie.Need-sub-mark-line Inv-loop μ-loop
 sub-mark-line c = omega arith
 
--- src/fields.rt:46:9
 mark-line-requires : tie.Need-mark-line-requires Inv-loop μ-loop
 mark-line-requires c κs = (omega (arith, c .before .before .before .pre .few), c .before .before .before .pre .children _ (omega arith))
 
--- src/fields.rt:44:5
 loop-less : tie.Need-loop-less Inv-loop μ-loop
 loop-less c = omega arith
 
--- src/fields.rt:44:5
 loop-again : tie.Need-loop-again Inv-loop μ-loop
 loop-again c = (omega arith, λ z. more-marks _ _ _ _ _ (c .before .before .before .loop .inv .1 z) (c .mark-line .ensures))
 
--- src/fields.rt:39:1
 returns : tie.Need-returns Inv-loop μ-loop
 returns c = λ z. subst (λ k. Counted (c .before .loop .marks) (markings (c .before .before .args .exprs .now) (c .before .before .args .n) k)) (let e : c .before .loop .k ≡ c .before .before .args .n = omega arith in e) (c .before .loop .inv .1 z)
 

@@ -5,48 +5,34 @@ use Rattle.reading.proofs.LineFields.{field-none, field-end, field-comm
 use borrow.Author.Needs.{needs}
 use Rattle.reading.proofs.line.read_field.Statement.{statement}
 use Rattle.reading.proofs.line.read_field.Tie as tie
-use Rattle.reading.proofs.line.read_field.Reads as reads
-use Rattle.reading.proofs.line.read_field.Lts as lts
-use Rattle.reading.proofs.line.field_of.Reads as field-of-reads
-use Rattle.reading.proofs.number.read_number.Reads as read-number-reads
 
--- src/line.rt:40:9
 returns : tie.Need-returns
 returns c = field-none _ (omega arith)
 
--- src/line.rt:42:13
 shared-slice-read-b : tie.Need-shared-slice-read-b
 shared-slice-read-b c = search needs
 
--- src/line.rt:44:9
 returns-2 : tie.Need-returns-2
 returns-2 c = field-end _ (omega arith) (omega arith)
 
--- src/line.rt:47:52
 sub-read-number : tie.Need-sub-read-number
 sub-read-number c = search needs
 
--- src/line.rt:47:52
 part-read-number-start : tie.Need-part-read-number-start
 part-read-number-start c = search needs
 
--- src/line.rt:47:52
 part-read-number-end : tie.Need-part-read-number-end
 part-read-number-end c = search needs
 
--- src/line.rt:47:25
 read-number-requires : tie.Need-read-number-requires
 read-number-requires c κs = search needs
 
--- src/line.rt:47:9
 field-of-requires : tie.Need-field-of-requires
 field-of-requires c κs = omega (arith, width-from (now (c .before .before .before .before .before .before .before .args .s)) _ (c .read-number .ensures))
 
--- src/line.rt:47:9
 returns-3 : tie.Need-returns-3
 returns-3 c = c .field-of .ensures ∙ field-comma _ (omega arith) _ (omega arith) (omega arith) (c .before .read-number .ensures)
 
--- src/line.rt:36:1
 returns-4 : tie.Need-returns-4
 returns-4 c = field-broken _ (omega arith) (omega arith) (omega arith)
 

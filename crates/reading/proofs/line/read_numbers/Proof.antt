@@ -5,11 +5,6 @@ use Rattle.reading.proofs.LineFields.{Sofar, stood, begin, turn, ends, 
 use borrow.Author.Needs.{needs}
 use Rattle.reading.proofs.line.read_numbers.Statement.{statement}
 use Rattle.reading.proofs.line.read_numbers.Tie as tie
-use Rattle.reading.proofs.line.read_numbers.Reads as reads
-use Rattle.reading.proofs.line.read_numbers.Lts as lts
-use Rattle.reading.proofs.line.no_numbers.Reads as no-numbers-reads
-use Rattle.reading.proofs.line.push.Reads as push-reads
-use Rattle.reading.proofs.line.read_field.Reads as read-field-reads
 
 abbrev Inv-loop : tie.InvT-loop
 Inv-loop s f₀ rest₀ f rest = Sofar s f rest
@@ -17,42 +12,33 @@ Inv-loop s f₀ rest₀ f rest = Sofar s f rest
 abbrev μ-loop : tie.MeasureT-loop
 μ-loop s f₀ rest₀ f rest = length rest
 
--- src/line.rt:83:9
 no-numbers-requires : tie.Need-no-numbers-requires Inv-loop μ-loop
 no-numbers-requires c κs = search needs
 
--- src/line.rt:85:5
 loop-holds : tie.Need-loop-holds Inv-loop μ-loop
 loop-holds c = begin _ _ (c .no-numbers .ensures)
 
--- src/line.rt:86:15
 read-field-requires : tie.Need-read-field-requires Inv-loop μ-loop
 read-field-requires c κs = search needs
 
--- src/line.rt:87:27
 enum-known-x : tie.Need-enum-known-x Inv-loop μ-loop
 enum-known-x c = search needs
 
--- src/line.rt:88:17
 push-requires : tie.Need-push-requires Inv-loop μ-loop
 push-requires c κs =
     let l = c .before .before .before .before .loop in
     let t = stood (l .rest .now) _ _ (sym (c .before .before .before .read-field .ensures) ∙ c .before .x .given .1) in
     omega (arith, l .inv .fits, l .inv .few, t .fits, t .some-bytes, c .before .before .before .before .before .before .before .good .0)
 
--- src/line.rt:89:24
 sub-rest : tie.Need-sub-rest Inv-loop μ-loop
 sub-rest c = stood _ _ _ (sym (c .before .before .before .before .read-field .ensures) ∙ c .before .before .x .given .1) .fits
 
--- src/line.rt:89:24
 part-rest-start : tie.Need-part-rest-start Inv-loop μ-loop
 part-rest-start c = stood _ _ _ (sym (c .before .before .before .before .read-field .ensures) ∙ c .before .before .x .given .1) .fits
 
--- src/line.rt:89:24
 part-rest-end : tie.Need-part-rest-end Inv-loop μ-loop
 part-rest-end c = search needs
 
--- src/line.rt:85:5
 loop-less : tie.Need-loop-less Inv-loop μ-loop
 loop-less c =
     let l = c .before .before .before .before .before .before .loop in
@@ -60,37 +46,30 @@ loop-less c =
     let t = stood (l .rest .now) _ n (sym (c .before .before .before .before .before .read-field .ensures) ∙ c .before .before .before .x .given .1) in
     omega (arith, length-from (l .rest .now) n, t .fits, t .some-bytes)
 
--- src/line.rt:85:5
 loop-again : tie.Need-loop-again Inv-loop μ-loop
 loop-again c =
     let l = c .before .before .before .before .before .before .loop in
     turn _ (l .rest .now) (l .f) _ _ _ (sym (c .before .before .before .before .before .read-field .ensures) ∙ c .before .before .before .x .given .1) (c .before .push .ensures) (l .inv)
 
--- src/line.rt:92:25
 enum-told : tie.Need-enum-told Inv-loop μ-loop
 enum-told c = search needs
 
--- src/line.rt:92:25
 add-f : tie.Need-add-f Inv-loop μ-loop
 add-f c =
     let l = c .before .before .before .before .loop in
     omega (arith, l .inv .fits, c .before .before .before .before .before .before .before .good .0)
 
--- src/line.rt:93:17
 returns : tie.Need-returns Inv-loop μ-loop
 returns c =
     let l = c .before .before .before .before .loop in
     ends _ (l .rest .now) (l .f) _ (sym (c .before .before .before .read-field .ensures) ∙ c .before .enum-told .given .1) (l .inv) refl
 
--- src/line.rt:96:17
 enum-told-2 : tie.Need-enum-told-2 Inv-loop μ-loop
 enum-told-2 c = search needs
 
--- src/line.rt:96:17
 no-numbers-requires-2 : tie.Need-no-numbers-requires-2 Inv-loop μ-loop
 no-numbers-requires-2 c κs = search needs
 
--- src/line.rt:96:17
 returns-2 : tie.Need-returns-2 Inv-loop μ-loop
 returns-2 c =
     let l = c .before .before .before .before .loop in

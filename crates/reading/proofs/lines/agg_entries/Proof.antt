@@ -2,14 +2,10 @@ use native.Mathlib.Omega.{arith}
 use borrow.Author.Tests.{eq-eqb, ne-eqb}
 use Rattle.reading.proofs.lines.agg_entries.Statement.{statement}
 use Rattle.reading.proofs.lines.agg_entries.Tie as tie
-use Rattle.reading.proofs.lines.agg_entries.Reads as reads
-use Rattle.reading.proofs.lines.agg_entries.Lts as lts
 
--- src/lines.rt:58:9
 returns : tie.Need-returns
 returns c = (rw (eq-eqb _ _ (c .if1 .taken)), omega arith)
 
--- src/lines.rt:54:1
 returns-2 : tie.Need-returns-2
 returns-2 c = (rw (ne-eqb _ _ (c .if1 .left)), omega arith)
 

@@ -4,73 +4,52 @@ use Rattle.reading.proofs.Checks.{not-numbers, E-few, E-late, E-not, E-
 use borrow.Author.Needs.{needs}
 use Rattle.reading.proofs.lines.read_expr.Statement.{statement}
 use Rattle.reading.proofs.lines.read_expr.Tie as tie
-use Rattle.reading.proofs.lines.read_expr.Reads as reads
-use Rattle.reading.proofs.lines.read_expr.Lts as lts
-use Rattle.reading.proofs.line.read_numbers.Reads as read-numbers-reads
-use Rattle.reading.proofs.lines.store_expr.Reads as store-expr-reads
-use Rattle.reading.proofs.tables.expr_fits.Reads as expr-fits-reads
 
--- src/lines.rt:67:9
 read-numbers-requires : tie.Need-read-numbers-requires
 read-numbers-requires c κs = search needs
 
--- src/lines.rt:69:9
 returns : tie.Need-returns
 returns c = λ ps snd. not-numbers _ _ _ (c .before .before .read-numbers .ensures .bad (not-true _ (c .if1 .taken)))
 
--- src/lines.rt:72:9
 returns-2 : tie.Need-returns-2
 returns-2 c = λ ps snd. E-few _ _ (c .before .before .before .before .read-numbers .ensures .good (not-false _ (c .before .before .if1 .left))) (omega arith) _
 
--- src/lines.rt:75:9
 returns-3 : tie.Need-returns-3
 returns-3 c = λ ps snd. E-late _ _ (c .before .before .before .before .before .before .read-numbers .ensures .good (not-false _ (c .before .before .before .before .if1 .left))) (omega arith) _ ps _ snd (c .if3 .taken)
 
--- src/lines.rt:79:34
 array-read-expr-fits : tie.Need-array-read-expr-fits
 array-read-expr-fits c = search needs
 
--- src/lines.rt:79:40
 array-read-expr-fits-2 : tie.Need-array-read-expr-fits-2
 array-read-expr-fits-2 c = search needs
 
--- src/lines.rt:79:46
 array-read-expr-fits-3 : tie.Need-array-read-expr-fits-3
 array-read-expr-fits-3 c = search needs
 
--- src/lines.rt:79:52
 array-read-expr-fits-4 : tie.Need-array-read-expr-fits-4
 array-read-expr-fits-4 c = search needs
 
--- src/lines.rt:79:9
 expr-fits-requires : tie.Need-expr-fits-requires
 expr-fits-requires c κs = search needs
 
--- src/lines.rt:80:9
 returns-4 : tie.Need-returns-4
 returns-4 c = λ ps snd. E-not _ _ (c .before .before .before .before .before .before .before .before .before .before .read-numbers .ensures .good (not-false _ (c .before .before .before .before .before .before .before .before .if1 .left))) (omega arith) _ ps _ snd (omega arith) _ (c .before .expr-fits .ensures .0) (not-true _ (c .if4 .taken))
 
--- src/lines.rt:83:9
 returns-5 : tie.Need-returns-5
 returns-5 c = λ ps snd. E-full _ _ (c .before .before .before .before .before .before .before .before .before .before .before .before .read-numbers .ensures .good (not-false _ (c .before .before .before .before .before .before .before .before .before .before .if1 .left))) (omega arith) _ ps _ snd (omega arith) _ (c .before .before .before .expr-fits .ensures .0) (not-false _ (c .before .before .if4 .left)) (omega arith)
 
--- src/lines.rt:85:35
 cast-store-expr : tie.Need-cast-store-expr
 cast-store-expr c = omega (arith, c .before .before .before .before .expr-fits .ensures .1 (not-false _ (c .before .before .before .if4 .left)))
 
--- src/lines.rt:85:5
 store-expr-requires : tie.Need-store-expr-requires
 store-expr-requires c κs = omega (arith, c .before .before .before .before .expr-fits .ensures .1 (not-false _ (c .before .before .before .if4 .left)))
 
--- src/lines.rt:87:16
 add-t25 : tie.Need-add-t25
 add-t25 c = search needs
 
--- src/lines.rt:91:26
 add-t25-2 : tie.Need-add-t25-2
 add-t25-2 c = omega (arith, (c .before .before .before .before .before .before .before .before .before .before .before .before .before .before .before .before .read-numbers .ensures .good (not-false _ (c .before .before .before .before .before .before .before .before .before .before .before .before .before .before .if1 .left))) .len, line-length (c .before .before .before .before .before .before .before .before .before .before .before .before .before .before .before .before .before .before .args .s .now), c .before .before .before .before .before .before .before .before .before .before .before .before .before .before .before .before .before .before .good .0 .1)
 
--- src/lines.rt:64:1
 returns-6 : tie.Need-returns-6
 returns-6 c = λ ps snd.
     E-taken _ _ (c .before .before .before .before .before .before .before .before .before .before .before .before .before .before .before .before .read-numbers .ensures .good (not-false _ (c .before .before .before .before .before .before .before .before .before .before .before .before .before .before .if1 .left))) (omega arith) _ ps _ snd (omega arith) _ (c .before .before .before .before .before .before .before .expr-fits .ensures .0) (not-false _ (c .before .before .before .before .before .before .if4 .left)) _ (omega arith)

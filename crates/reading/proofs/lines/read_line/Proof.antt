@@ -4,58 +4,42 @@ use Rattle.reading.proofs.Whole.{lettered-read, unlettered}
 use borrow.Author.Needs.{needs}
 use Rattle.reading.proofs.lines.read_line.Statement.{statement}
 use Rattle.reading.proofs.lines.read_line.Tie as tie
-use Rattle.reading.proofs.lines.read_line.Reads as reads
-use Rattle.reading.proofs.lines.read_line.Lts as lts
-use Rattle.reading.proofs.lines.read_expr.Reads as read-expr-reads
-use Rattle.reading.proofs.lines.read_step.Reads as read-step-reads
 
--- src/lines.rt:132:18
 shared-slice-read-letter : tie.Need-shared-slice-read-letter
 shared-slice-read-letter c = search needs
 
--- src/lines.rt:134:26
 sub-read-expr : tie.Need-sub-read-expr
 sub-read-expr c = search needs
 
--- src/lines.rt:134:26
 part-read-expr-start : tie.Need-part-read-expr-start
 part-read-expr-start c = search needs
 
--- src/lines.rt:134:26
 part-read-expr-end : tie.Need-part-read-expr-end
 part-read-expr-end c = search needs
 
--- src/lines.rt:134:9
 read-expr-requires : tie.Need-read-expr-requires
 read-expr-requires c κs = search needs
 
--- src/lines.rt:134:9
 returns : tie.Need-returns
 returns c = lettered-read (c .before .before .before .before .before .before .args .s .now) (c .before .before .before .before .before .before .args .exprs .now) (c .before .before .before .before .before .before .args .steps .now) (c .read-expr .last .1 .0) (c .before .before .before .before .before .before .args .steps .now) (c .before .before .before .before .before .before .args .t) (c .read-expr .result)
     (omega arith) 69 refl refl (omega arith) (c .read-expr .ensures (c .before .before .before .before .before .before .args .steps .now) (c .before .before .before .before .before .before .pre .1))
 
--- src/lines.rt:137:26
 sub-read-step : tie.Need-sub-read-step
 sub-read-step c = search needs
 
--- src/lines.rt:137:26
 part-read-step-start : tie.Need-part-read-step-start
 part-read-step-start c = search needs
 
--- src/lines.rt:137:26
 part-read-step-end : tie.Need-part-read-step-end
 part-read-step-end c = search needs
 
--- src/lines.rt:137:9
 read-step-requires : tie.Need-read-step-requires
 read-step-requires c κs = search needs
 
--- src/lines.rt:137:9
 returns-2 : tie.Need-returns-2
 returns-2 c = lettered-read (c .before .before .before .before .before .before .before .args .s .now) (c .before .before .before .before .before .before .before .args .exprs .now) (c .before .before .before .before .before .before .before .args .steps .now) (c .before .before .before .before .before .before .before .args .exprs .now) (c .read-step .last .1 .0) (c .before .before .before .before .before .before .before .args .t) (c .read-step .result)
     (omega arith) 80 refl refl (omega arith) (c .read-step .ensures (c .before .before .before .before .before .before .before .args .exprs .now) (c .before .before .before .before .before .before .before .pre .1))
 
--- src/lines.rt:128:1
 returns-3 : tie.Need-returns-3
 returns-3 c = unlettered _ _ (omega arith) (omega arith) (omega arith)
 

@@ -6,9 +6,6 @@ use Rattle.reading.proofs.LineFields.{length-from}
 use Rattle.reading.proofs.Whole.{Along, begin, within, some-bytes, turn, refuses, all-read, taken-is, refused-is}
 use Rattle.reading.proofs.lines.read_lines.Statement.{statement}
 use Rattle.reading.proofs.lines.read_lines.Tie as tie
-use Rattle.reading.proofs.lines.read_lines.Reads as reads
-use Rattle.reading.proofs.lines.read_lines.Lts as lts
-use Rattle.reading.proofs.lines.read_line.Reads as read-line-reads
 
 abbrev Inv-loop : tie.InvT-loop
 Inv-loop sheet exprs₀ steps₀ t₀ rest₀ exprs steps t rest = Along sheet rest exprs steps t
@@ -16,48 +13,37 @@ Inv-loop sheet exprs₀ steps₀ t₀ rest₀ exprs steps t rest = Along sheet r
 abbrev μ-loop : tie.MeasureT-loop
 μ-loop sheet exprs₀ steps₀ t₀ rest₀ exprs steps t rest = length rest
 
--- src/lines.rt:158:5
 loop-holds : tie.Need-loop-holds Inv-loop μ-loop
 loop-holds c = begin _ _ _
 
--- src/lines.rt:159:15
 read-line-requires : tie.Need-read-line-requires Inv-loop μ-loop
 read-line-requires c κs = (c .before .before .loop-test .taken, c .before .before .before .loop .inv .sound)
 
--- src/lines.rt:160:28
 enum-known-next : tie.Need-enum-known-next Inv-loop μ-loop
 enum-known-next c = search needs
 
--- src/lines.rt:162:24
 sub-rest : tie.Need-sub-rest Inv-loop μ-loop
 sub-rest c = within _ _ _ _ _ _ _ _ (taken-is (line-here (c .before .before .before .before .before .before .before .loop .rest .now)) (c .before .before .before .before .before .before .before .loop .rest .now) (c .before .before .before .before .before .before .before .loop .exprs) (c .before .before .before .before .before .before .before .loop .steps) _ _ (c .before .before .before .before .before .before .before .loop .t) _ _ _ (c .before .before .before .read-line .ensures) (c .before .next .given .1))
 
--- src/lines.rt:162:24
 part-rest-start : tie.Need-part-rest-start Inv-loop μ-loop
 part-rest-start c = within _ _ _ _ _ _ _ _ (taken-is (line-here (c .before .before .before .before .before .before .before .loop .rest .now)) (c .before .before .before .before .before .before .before .loop .rest .now) (c .before .before .before .before .before .before .before .loop .exprs) (c .before .before .before .before .before .before .before .loop .steps) _ _ (c .before .before .before .before .before .before .before .loop .t) _ _ _ (c .before .before .before .read-line .ensures) (c .before .next .given .1))
 
--- src/lines.rt:162:24
 part-rest-end : tie.Need-part-rest-end Inv-loop μ-loop
 part-rest-end c = search needs
 
--- src/lines.rt:158:5
 loop-less : tie.Need-loop-less Inv-loop μ-loop
 loop-less c = let l = taken-is (line-here (c .before .before .before .before .before .before .before .before .loop .rest .now)) (c .before .before .before .before .before .before .before .before .loop .rest .now) (c .before .before .before .before .before .before .before .before .loop .exprs) (c .before .before .before .before .before .before .before .before .loop .steps) _ _ (c .before .before .before .before .before .before .before .before .loop .t) _ _ _ (c .before .before .before .before .read-line .ensures) (c .before .before .next .given .1) in
     omega (arith, length-from (c .before .before .before .before .before .before .before .before .loop .rest .now) (c .before .before .next .given .0 .1 .0), within _ _ _ _ _ _ _ _ l, some-bytes _ _ _ _ _ _ _ _ l)
 
--- src/lines.rt:158:5
 loop-again : tie.Need-loop-again Inv-loop μ-loop
 loop-again c = turn _ _ _ _ _ _ _ _ (taken-is (line-here (c .before .before .before .before .before .before .before .before .loop .rest .now)) (c .before .before .before .before .before .before .before .before .loop .rest .now) (c .before .before .before .before .before .before .before .before .loop .exprs) (c .before .before .before .before .before .before .before .before .loop .steps) _ _ (c .before .before .before .before .before .before .before .before .loop .t) _ _ _ (c .before .before .before .before .read-line .ensures) (c .before .before .next .given .1)) _ (c .before .before .before .before .before .before .before .before .loop .inv)
 
--- src/lines.rt:164:30
 enum-known-k : tie.Need-enum-known-k Inv-loop μ-loop
 enum-known-k c = search needs
 
--- src/lines.rt:165:17
 returns : tie.Need-returns Inv-loop μ-loop
 returns c = refuses _ _ _ _ _ _ (c .before .before .before .before .before .before .before .loop .inv) (c .before .before .before .before .before .before .loop-test .taken) (refused-is _ _ _ _ _ _ _ _ _ (c .before .before .before .read-line .ensures) (c .before .k .given .1))
 
--- src/lines.rt:149:1
 returns-2 : tie.Need-returns-2 Inv-loop μ-loop
 returns-2 c = all-read _ _ _ _ _ (c .before .loop .inv) (omega arith)
 

@@ -4,102 +4,73 @@ use Rattle.reading.proofs.Checks.{not-numbers, P-few, P-not, P-full, P-
 use borrow.Author.Needs.{needs}
 use Rattle.reading.proofs.lines.read_step.Statement.{statement}
 use Rattle.reading.proofs.lines.read_step.Tie as tie
-use Rattle.reading.proofs.lines.read_step.Reads as reads
-use Rattle.reading.proofs.lines.read_step.Lts as lts
-use Rattle.reading.proofs.line.read_numbers.Reads as read-numbers-reads
-use Rattle.reading.proofs.lines.agg_entries.Reads as agg-entries-reads
-use Rattle.reading.proofs.lines.store_step.Reads as store-step-reads
-use Rattle.reading.proofs.tables.step_fits.Reads as step-fits-reads
 
--- src/lines.rt:99:9
 read-numbers-requires : tie.Need-read-numbers-requires
 read-numbers-requires c κs = search needs
 
--- src/lines.rt:101:9
 returns : tie.Need-returns
 returns c = λ es snd. not-numbers _ _ _ (c .before .before .read-numbers .ensures .bad (not-true _ (c .if1 .taken)))
 
--- src/lines.rt:104:9
 returns-2 : tie.Need-returns-2
 returns-2 c = λ es snd. P-few _ _ (c .before .before .before .before .read-numbers .ensures .good (not-false _ (c .before .before .if1 .left))) (omega arith) _
 
--- src/lines.rt:108:34
 array-read-step-fits : tie.Need-array-read-step-fits
 array-read-step-fits c = search needs
 
--- src/lines.rt:108:40
 array-read-step-fits-2 : tie.Need-array-read-step-fits-2
 array-read-step-fits-2 c = search needs
 
--- src/lines.rt:108:46
 array-read-step-fits-3 : tie.Need-array-read-step-fits-3
 array-read-step-fits-3 c = search needs
 
--- src/lines.rt:108:52
 array-read-step-fits-4 : tie.Need-array-read-step-fits-4
 array-read-step-fits-4 c = search needs
 
--- src/lines.rt:108:58
 array-read-step-fits-5 : tie.Need-array-read-step-fits-5
 array-read-step-fits-5 c = search needs
 
--- src/lines.rt:108:64
 array-read-step-fits-6 : tie.Need-array-read-step-fits-6
 array-read-step-fits-6 c = search needs
 
--- src/lines.rt:108:70
 array-read-step-fits-7 : tie.Need-array-read-step-fits-7
 array-read-step-fits-7 c = search needs
 
--- src/lines.rt:108:9
 step-fits-requires : tie.Need-step-fits-requires
 step-fits-requires c κs = search needs
 
--- src/lines.rt:109:9
 returns-3 : tie.Need-returns-3
 returns-3 c = λ es snd. P-not _ _ (c .before .before .before .before .before .before .before .read-numbers .ensures .good (not-false _ (c .before .before .before .before .before .if1 .left))) (omega arith) es _ _ snd _ (c .before .step-fits .ensures .0) (not-true _ (c .if3 .taken))
 
--- src/lines.rt:112:9
 returns-4 : tie.Need-returns-4
 returns-4 c = λ es snd. P-full _ _ (c .before .before .before .before .before .before .before .before .before .read-numbers .ensures .good (not-false _ (c .before .before .before .before .before .before .before .if1 .left))) (omega arith) es _ _ snd _ (c .before .before .before .step-fits .ensures .0) (not-false _ (c .before .before .if3 .left)) (omega arith)
 
--- src/lines.rt:114:37
 array-read-agg-entries : tie.Need-array-read-agg-entries
 array-read-agg-entries c = search needs
 
--- src/lines.rt:114:43
 array-read-agg-entries-2 : tie.Need-array-read-agg-entries-2
 array-read-agg-entries-2 c = search needs
 
--- src/lines.rt:114:25
 agg-entries-requires : tie.Need-agg-entries-requires
 agg-entries-requires c κs = search needs
 
--- src/lines.rt:114:16
 add-aggs : tie.Need-add-aggs
 add-aggs c = search needs
 
--- src/lines.rt:115:14
 add-if5 : tie.Need-add-if5
 add-if5 c = search needs
 
--- src/lines.rt:116:9
 returns-5 : tie.Need-returns-5
 returns-5 c = λ es snd. P-over _ _ (c .before .before .before .before .before .before .before .before .before .before .before .before .before .read-numbers .ensures .good (not-false _ (c .before .before .before .before .before .before .before .before .before .before .before .if1 .left))) (omega arith) es _ _ snd _ (c .before .before .before .before .before .before .before .step-fits .ensures .0) (not-false _ (c .before .before .before .before .before .before .if3 .left)) _ (c .before .before .before .agg-entries .ensures .0) (omega arith)
 
--- src/lines.rt:118:5
 store-step-requires : tie.Need-store-step-requires
 store-step-requires c κs = search needs
 
--- src/lines.rt:122:16
 add-t32 : tie.Need-add-t32
 add-t32 c = search needs
 
--- src/lines.rt:124:26
 add-t32-2 : tie.Need-add-t32-2
 add-t32-2 c = omega (arith, (c .before .before .before .before .before .before .before .before .before .before .before .before .before .before .before .before .before .read-numbers .ensures .good (not-false _ (c .before .before .before .before .before .before .before .before .before .before .before .before .before .before .before .if1 .left))) .len, line-length (c .before .before .before .before .before .before .before .before .before .before .before .before .before .before .before .before .before .before .before .args .s .now), c .before .before .before .before .before .before .before .before .before .before .before .before .before .before .before .before .before .before .before .good .0 .1)
 
--- src/lines.rt:95:1
 returns-6 : tie.Need-returns-6
 returns-6 c = λ es snd.
     P-taken _ _ (c .before .before .before .before .before .before .before .before .before .before .before .before .before .before .before .before .before .read-numbers .ensures .good (not-false _ (c .before .before .before .before .before .before .before .before .before .before .before .before .before .before .before .if1 .left))) (omega arith) es _ _ snd _ (c .before .before .before .before .before .before .before .before .before .before .before .step-fits .ensures .0) (not-false _ (c .before .before .before .before .before .before .before .before .before .before .if3 .left)) _ (c .before .before .before .before .before .before .before .agg-entries .ensures .0) _ (omega arith) (omega arith)

@@ -3,23 +3,16 @@ use native.Mathlib.Omega.{arith}
 use borrow.Author.Needs.{needs}
 use Rattle.reading.proofs.number.digit_at.Statement.{statement}
 use Rattle.reading.proofs.number.digit_at.Tie as tie
-use Rattle.reading.proofs.number.digit_at.Reads as reads
-use Rattle.reading.proofs.number.digit_at.Lts as lts
-use Rattle.reading.proofs.number.digit_of.Reads as digit-of-reads
 
--- src/number.rt:36:25
 shared-slice-read-digit-of : tie.Need-shared-slice-read-digit-of
 shared-slice-read-digit-of c = search needs
 
--- src/number.rt:36:9
 digit-of-requires : tie.Need-digit-of-requires
 digit-of-requires c κs = search needs
 
--- src/number.rt:36:9
 returns : tie.Need-returns
 returns c = (digit-here _ _ _ (omega arith) (c .digit-of .ensures .0), omega arith)
 
--- src/number.rt:32:1
 returns-2 : tie.Need-returns-2
 returns-2 c = (digit-past _ _ (omega arith), omega arith)
 

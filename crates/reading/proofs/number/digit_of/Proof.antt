@@ -3,30 +3,23 @@ use borrow.Author.Tests.{ne-eqb, eq-eqb, le-ltb, lt-ltb}
 use native.Mathlib.Omega.{arith}
 use Rattle.reading.proofs.number.digit_of.Statement.{statement}
 use Rattle.reading.proofs.number.digit_of.Tie as tie
-use Rattle.reading.proofs.number.digit_of.Reads as reads
-use Rattle.reading.proofs.number.digit_of.Lts as lts
 
--- src/number.rt:17:9
 returns : tie.Need-returns
 unfolding digit-of
 returns c = (simp (digit-of, eq-eqb _ _ (c .if1 .taken)), omega arith)
 
--- src/number.rt:20:9
 returns-2 : tie.Need-returns-2
 unfolding digit-of
 returns-2 c = (simp (digit-of, eq-eqb _ _ (c .if2 .taken), ne-eqb _ _ (c .before .if1 .left)), omega arith)
 
--- src/number.rt:23:9
 returns-3 : tie.Need-returns-3
 unfolding digit-of
 returns-3 c = (simp (digit-of, lt-ltb _ _ (c .if3 .taken), ne-eqb _ _ (c .before .if2 .left), ne-eqb _ _ (c .before .before .if1 .left)), omega arith)
 
--- src/number.rt:26:9
 returns-4 : tie.Need-returns-4
 unfolding digit-of
 returns-4 c = (simp (digit-of, lt-ltb _ _ (c .if4 .taken), le-ltb _ _ (c .before .if3 .left), ne-eqb _ _ (c .before .before .if2 .left), ne-eqb _ _ (c .before .before .before .if1 .left)), omega arith)
 
--- src/number.rt:13:1
 returns-5 : tie.Need-returns-5
 unfolding digit-of
 returns-5 c = (simp (digit-of, le-ltb _ _ (c .if4 .left), le-ltb _ _ (c .before .if3 .left), ne-eqb _ _ (c .before .before .if2 .left), ne-eqb _ _ (c .before .before .before .if1 .left)), omega arith)

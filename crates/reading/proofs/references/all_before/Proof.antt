@@ -9,9 +9,6 @@ use Rattle.reading.proofs.Refers.{not-before, a-sink, no-sink}
 use Rattle.reading.proofs.Scans.{numbers-from, all-left, number-fails, number-passes, numbers-pass}
 use Rattle.reading.proofs.references.all_before.Statement.{statement}
 use Rattle.reading.proofs.references.all_before.Tie as tie
-use Rattle.reading.proofs.references.all_before.Reads as reads
-use Rattle.reading.proofs.references.all_before.Lts as lts
-use Rattle.reading.proofs.references.wide.Reads as wide-reads
 
 abbrev Inv-loop : tie.InvT-loop
 Inv-loop steps at n i j₀ j = (j ≤ n) × (all? (before-no-sink steps i) (take n (drop at steps)) ≡ all? (before-no-sink steps i) (numbers-from steps at n j))
@@ -19,51 +16,39 @@ Inv-loop steps at n i j₀ j = (j ≤ n) × (all? (before-no-sink steps i) (take
 abbrev μ-loop : tie.MeasureT-loop
 μ-loop steps at n i j₀ j = n - j
 
--- src/references.rt:62:5
 loop-holds : tie.Need-loop-holds Inv-loop μ-loop
 loop-holds c = (omega arith, ap (all? (before-no-sink (c .before .args .steps .now) (c .before .args .i))) (all-left (c .before .args .steps .now) (c .before .args .at) (c .before .args .n)))
 
--- src/references.rt:63:28
 add-wide : tie.Need-add-wide Inv-loop μ-loop
 add-wide c = omega arith
 
--- src/references.rt:63:22
 shared-slice-read-wide : tie.Need-shared-slice-read-wide Inv-loop μ-loop
 shared-slice-read-wide c = omega arith
 
--- src/references.rt:63:13
 wide-requires : tie.Need-wide-requires Inv-loop μ-loop
 wide-requires c κs = search needs
 
--- src/references.rt:65:13
 returns : tie.Need-returns Inv-loop μ-loop
 returns c = number-fails (before-no-sink (c .before .before .before .before .before .before .args .steps .now) (c .before .before .before .before .before .before .args .i)) (c .before .before .before .before .before .before .args .steps .now) (c .before .before .before .before .before .before .args .at) (c .before .before .before .before .before .before .args .n) (c .before .before .before .before .loop .j) (omega arith) (omega arith) (c .before .before .before .before .loop .inv .1) (not-before (c .before .before .before .before .before .before .args .steps .now) (c .before .before .before .before .before .before .args .i) _ (rw (c .before .wide .ensures .0) at (c .if1 .taken)))
 
--- src/references.rt:67:18
 mul-if2 : tie.Need-mul-if2 Inv-loop μ-loop
 mul-if2 c = omega arith
 
--- src/references.rt:67:12
 shared-slice-read-if2 : tie.Need-shared-slice-read-if2 Inv-loop μ-loop
 shared-slice-read-if2 c = omega arith
 
--- src/references.rt:68:13
 returns-2 : tie.Need-returns-2 Inv-loop μ-loop
 returns-2 c = number-fails (before-no-sink (c .before .before .before .before .before .before .before .before .args .steps .now) (c .before .before .before .before .before .before .before .before .args .i)) (c .before .before .before .before .before .before .before .before .args .steps .now) (c .before .before .before .before .before .before .before .before .args .at) (c .before .before .before .before .before .before .before .before .args .n) (c .before .before .before .before .before .before .loop .j) (omega arith) (omega arith) (c .before .before .before .before .before .before .loop .inv .1) (a-sink (c .before .before .before .before .before .before .before .before .args .steps .now) (c .before .before .before .before .before .before .before .before .args .i) _ (rw (c .before .before .before .wide .ensures .0) at (c .before .before .if1 .left)) (rw (c .before .before .before .wide .ensures .0) at (c .if2 .taken)))
 
--- src/references.rt:70:9
 add-j : tie.Need-add-j Inv-loop μ-loop
 add-j c = omega arith
 
--- src/references.rt:62:5
 loop-less : tie.Need-loop-less Inv-loop μ-loop
 loop-less c = omega arith
 
--- src/references.rt:62:5
 loop-again : tie.Need-loop-again Inv-loop μ-loop
 loop-again c = (omega arith, number-passes (before-no-sink (c .before .before .before .before .before .before .before .before .args .steps .now) (c .before .before .before .before .before .before .before .before .args .i)) (c .before .before .before .before .before .before .before .before .args .steps .now) (c .before .before .before .before .before .before .before .before .args .at) (c .before .before .before .before .before .before .before .before .args .n) (c .before .before .before .before .before .before .loop .j) (omega arith) (omega arith) (c .before .before .before .before .before .before .loop .inv .1) (no-sink (c .before .before .before .before .before .before .before .before .args .steps .now) (c .before .before .before .before .before .before .before .before .args .i) _ (rw (c .before .before .before .wide .ensures .0) at (c .before .before .if1 .left)) (rw (c .before .before .before .wide .ensures .0) at (c .if2 .left))))
 
--- src/references.rt:57:1
 returns-3 : tie.Need-returns-3 Inv-loop μ-loop
 returns-3 c = numbers-pass (before-no-sink (c .before .before .before .args .steps .now) (c .before .before .before .args .i)) (c .before .before .before .args .steps .now) (c .before .before .before .args .at) (c .before .before .before .args .n) (c .before .loop .j) (omega arith) (c .before .loop .inv .1)
 

@@ -9,9 +9,6 @@ use Rattle.plan.specs.Lists.{all?}
 use Rattle.reading.proofs.Scans.{numbers-from, all-left, number-fails, number-passes, numbers-pass}
 use Rattle.reading.proofs.references.all_below.Statement.{statement}
 use Rattle.reading.proofs.references.all_below.Tie as tie
-use Rattle.reading.proofs.references.all_below.Reads as reads
-use Rattle.reading.proofs.references.all_below.Lts as lts
-use Rattle.reading.proofs.references.wide.Reads as wide-reads
 
 abbrev Inv-loop : tie.InvT-loop
 Inv-loop bytes at n limit j₀ j = (j ≤ n) × (all? (λ q. ltb q limit) (take n (drop at bytes)) ≡ all? (λ q. ltb q limit) (numbers-from bytes at n j))
@@ -19,39 +16,30 @@ Inv-loop bytes at n limit j₀ j = (j ≤ n) × (all? (λ q. ltb q limit) (take 
 abbrev μ-loop : tie.MeasureT-loop
 μ-loop bytes at n limit j₀ j = n - j
 
--- src/references.rt:25:5
 loop-holds : tie.Need-loop-holds Inv-loop μ-loop
 loop-holds c = (omega arith, ap (all? (λ q. ltb q (c .before .args .limit))) (all-left (c .before .args .bytes .now) (c .before .args .at) (c .before .args .n)))
 
--- src/references.rt:26:32
 add-wide : tie.Need-add-wide Inv-loop μ-loop
 add-wide c = omega arith
 
--- src/references.rt:26:26
 shared-slice-read-wide : tie.Need-shared-slice-read-wide Inv-loop μ-loop
 shared-slice-read-wide c = omega arith
 
--- src/references.rt:26:21
 wide-requires : tie.Need-wide-requires Inv-loop μ-loop
 wide-requires c κs = search needs
 
--- src/references.rt:27:13
 returns : tie.Need-returns Inv-loop μ-loop
 returns c = number-fails (λ q. ltb q (c .before .before .before .before .before .before .args .limit)) (c .before .before .before .before .before .before .args .bytes .now) (c .before .before .before .before .before .before .args .at) (c .before .before .before .before .before .before .args .n) (c .before .before .before .before .loop .j) (omega arith) (omega arith) (c .before .before .before .before .loop .inv .1) (le-ltb (getD (c .before .before .before .before .before .before .args .bytes .now) (c .before .before .before .before .before .before .args .at + c .before .before .before .before .loop .j) 0) (c .before .before .before .before .before .before .args .limit) (omega arith))
 
--- src/references.rt:29:9
 add-j : tie.Need-add-j Inv-loop μ-loop
 add-j c = omega arith
 
--- src/references.rt:25:5
 loop-less : tie.Need-loop-less Inv-loop μ-loop
 loop-less c = omega arith
 
--- src/references.rt:25:5
 loop-again : tie.Need-loop-again Inv-loop μ-loop
 loop-again c = (omega arith, number-passes (λ q. ltb q (c .before .before .before .before .before .before .args .limit)) (c .before .before .before .before .before .before .args .bytes .now) (c .before .before .before .before .before .before .args .at) (c .before .before .before .before .before .before .args .n) (c .before .before .before .before .loop .j) (omega arith) (omega arith) (c .before .before .before .before .loop .inv .1) (lt-ltb (getD (c .before .before .before .before .before .before .args .bytes .now) (c .before .before .before .before .before .before .args .at + c .before .before .before .before .loop .j) 0) (c .before .before .before .before .before .before .args .limit) (omega arith)))
 
--- src/references.rt:20:1
 returns-2 : tie.Need-returns-2 Inv-loop μ-loop
 returns-2 c = numbers-pass (λ q. ltb q (c .before .before .before .args .limit)) (c .before .before .before .args .bytes .now) (c .before .before .before .args .at) (c .before .before .before .args .n) (c .before .loop .j) (omega arith) (c .before .loop .inv .1)
 

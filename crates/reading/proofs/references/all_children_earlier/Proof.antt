@@ -9,9 +9,6 @@ use Rattle.reading.proofs.Scans.{lines-from, line-fails, line-passes, l
 use Rattle.reading.proofs.Refers.{exprs-first}
 use Rattle.reading.proofs.references.all_children_earlier.Statement.{statement}
 use Rattle.reading.proofs.references.all_children_earlier.Tie as tie
-use Rattle.reading.proofs.references.all_children_earlier.Reads as reads
-use Rattle.reading.proofs.references.all_children_earlier.Lts as lts
-use Rattle.reading.proofs.references.children_earlier.Reads as children-earlier-reads
 
 abbrev Inv-loop : tie.InvT-loop
 Inv-loop exprs n i₀ i = (i ≤ n) × (all? children-earlier (numbered 0 (stored-exprs exprs n)) ≡ lines-from children-earlier (stored-expr exprs) n i)
@@ -19,31 +16,24 @@ Inv-loop exprs n i₀ i = (i ≤ n) × (all? children-earlier (numbered 0 (store
 abbrev μ-loop : tie.MeasureT-loop
 μ-loop exprs n i₀ i = n - i
 
--- src/references.rt:47:5
 loop-holds : tie.Need-loop-holds Inv-loop μ-loop
 loop-holds c = (omega arith, exprs-first children-earlier (c .args .exprs .now) (c .args .n))
 
--- src/references.rt:48:13
 children-earlier-requires : tie.Need-children-earlier-requires Inv-loop μ-loop
 children-earlier-requires c κs = (omega (arith, c .before .before .pre .few), c .before .before .pre .children _ (c .loop-test .taken))
 
--- src/references.rt:49:13
 returns : tie.Need-returns Inv-loop μ-loop
 returns c = line-fails children-earlier (stored-expr (c .before .before .before .before .args .exprs .now)) (c .before .before .before .before .args .n) _ (c .before .before .loop-test .taken) (sym (c .before .children-earlier .ensures) ∙ not-true _ (c .if1 .taken)) (c .before .before .before .loop .inv .1)
 
--- src/references.rt:51:9
 add-i : tie.Need-add-i Inv-loop μ-loop
 add-i c = omega (arith, c .before .before .before .before .pre .few)
 
--- src/references.rt:47:5
 loop-less : tie.Need-loop-less Inv-loop μ-loop
 loop-less c = omega arith
 
--- src/references.rt:47:5
 loop-again : tie.Need-loop-again Inv-loop μ-loop
 loop-again c = (omega arith, line-passes children-earlier (stored-expr (c .before .before .before .before .args .exprs .now)) (c .before .before .before .before .args .n) _ (c .before .before .loop-test .taken) (sym (c .before .children-earlier .ensures) ∙ not-false _ (c .if1 .left)) (c .before .before .before .loop .inv .1))
 
--- src/references.rt:42:1
 returns-2 : tie.Need-returns-2 Inv-loop μ-loop
 returns-2 c = lines-pass children-earlier (stored-expr (c .before .before .args .exprs .now)) (c .before .before .args .n) (c .before .loop .i) (omega arith) (c .before .loop .inv .1)
 

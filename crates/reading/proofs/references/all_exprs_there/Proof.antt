@@ -10,9 +10,6 @@ use Rattle.reading.proofs.Scans.{lines-from, line-fails, line-passes, l
 use Rattle.reading.proofs.Refers.{steps-first}
 use Rattle.reading.proofs.references.all_exprs_there.Statement.{statement}
 use Rattle.reading.proofs.references.all_exprs_there.Tie as tie
-use Rattle.reading.proofs.references.all_exprs_there.Reads as reads
-use Rattle.reading.proofs.references.all_exprs_there.Lts as lts
-use Rattle.reading.proofs.references.exprs_there.Reads as exprs-there-reads
 
 abbrev Inv-loop : tie.InvT-loop
 Inv-loop steps n count i₀ i = (i ≤ n) × (all? (λ (i, s). all? (λ q. ltb q count) (both s)) (numbered 0 (stored-steps steps n)) ≡ lines-from (λ (i, s). all? (λ q. ltb q count) (both s)) (stored-step steps) n i)
@@ -20,31 +17,24 @@ Inv-loop steps n count i₀ i = (i ≤ n) × (all? (λ (i, s). all? (λ q. ltb q
 abbrev μ-loop : tie.MeasureT-loop
 μ-loop steps n count i₀ i = n - i
 
--- src/references.rt:107:5
 loop-holds : tie.Need-loop-holds Inv-loop μ-loop
 loop-holds c = (omega arith, steps-first (λ (i, s). all? (λ q. ltb q (c .args .count)) (both s)) (c .args .steps .now) (c .args .n))
 
--- src/references.rt:108:13
 exprs-there-requires : tie.Need-exprs-there-requires Inv-loop μ-loop
 exprs-there-requires c κs = c .before .before .pre .each _ (c .loop-test .taken)
 
--- src/references.rt:109:13
 returns : tie.Need-returns Inv-loop μ-loop
 returns c = line-fails (λ (i, s). all? (λ q. ltb q (c .before .before .before .before .args .count)) (both s)) (stored-step (c .before .before .before .before .args .steps .now)) (c .before .before .before .before .args .n) _ (c .before .before .loop-test .taken) (sym (c .before .exprs-there .ensures) ∙ not-true _ (c .if1 .taken)) (c .before .before .before .loop .inv .1)
 
--- src/references.rt:111:9
 add-i : tie.Need-add-i Inv-loop μ-loop
 add-i c = omega (arith, c .before .before .before .before .pre .few)
 
--- src/references.rt:107:5
 loop-less : tie.Need-loop-less Inv-loop μ-loop
 loop-less c = omega arith
 
--- src/references.rt:107:5
 loop-again : tie.Need-loop-again Inv-loop μ-loop
 loop-again c = (omega arith, line-passes (λ (i, s). all? (λ q. ltb q (c .before .before .before .before .args .count)) (both s)) (stored-step (c .before .before .before .before .args .steps .now)) (c .before .before .before .before .args .n) _ (c .before .before .loop-test .taken) (sym (c .before .exprs-there .ensures) ∙ not-false _ (c .if1 .left)) (c .before .before .before .loop .inv .1))
 
--- src/references.rt:102:1
 returns-2 : tie.Need-returns-2 Inv-loop μ-loop
 returns-2 c = lines-pass (λ (i, s). all? (λ q. ltb q (c .before .before .args .count)) (both s)) (stored-step (c .before .before .args .steps .now)) (c .before .before .args .n) (c .before .loop .i) (omega arith) (c .before .loop .inv .1)
 

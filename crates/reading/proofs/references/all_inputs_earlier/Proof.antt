@@ -11,9 +11,6 @@ use Rattle.reading.proofs.Scans.{lines-from, line-fails, line-passes, l
 use Rattle.reading.proofs.Refers.{steps-first}
 use Rattle.reading.proofs.references.all_inputs_earlier.Statement.{statement}
 use Rattle.reading.proofs.references.all_inputs_earlier.Tie as tie
-use Rattle.reading.proofs.references.all_inputs_earlier.Reads as reads
-use Rattle.reading.proofs.references.all_inputs_earlier.Lts as lts
-use Rattle.reading.proofs.references.inputs_earlier.Reads as inputs-earlier-reads
 
 abbrev Inv-loop : tie.InvT-loop
 Inv-loop steps n i₀ i = (i ≤ n) × ((es : List Expr) → all? (inputs-earlier (record { exprs = es; steps = stored-steps steps n })) (numbered 0 (stored-steps steps n)) ≡ lines-from (inputs-earlier (record { exprs = es; steps = stored-steps steps n })) (stored-step steps) n i)
@@ -21,31 +18,24 @@ Inv-loop steps n i₀ i = (i ≤ n) × ((es : List Expr) → all? (inputs-earlie
 abbrev μ-loop : tie.MeasureT-loop
 μ-loop steps n i₀ i = n - i
 
--- src/references.rt:89:5
 loop-holds : tie.Need-loop-holds Inv-loop μ-loop
 loop-holds c = (omega arith, λ es. steps-first (inputs-earlier (record { exprs = es; steps = stored-steps (c .args .steps .now) (c .args .n) })) (c .args .steps .now) (c .args .n))
 
--- src/references.rt:90:13
 inputs-earlier-requires : tie.Need-inputs-earlier-requires Inv-loop μ-loop
 inputs-earlier-requires c κs = c .before .before .pre .each _ (c .loop-test .taken)
 
--- src/references.rt:91:13
 returns : tie.Need-returns Inv-loop μ-loop
 returns c = λ es. line-fails (inputs-earlier (record { exprs = es; steps = stored-steps (c .before .before .before .before .args .steps .now) (c .before .before .before .before .args .n) })) (stored-step (c .before .before .before .before .args .steps .now)) (c .before .before .before .before .args .n) _ (c .before .before .loop-test .taken) (sym (c .before .inputs-earlier .ensures es _ (c .before .before .loop-test .taken)) ∙ not-true _ (c .if1 .taken)) (c .before .before .before .loop .inv .1 es)
 
--- src/references.rt:93:9
 add-i : tie.Need-add-i Inv-loop μ-loop
 add-i c = omega (arith, c .before .before .before .before .pre .few)
 
--- src/references.rt:89:5
 loop-less : tie.Need-loop-less Inv-loop μ-loop
 loop-less c = omega arith
 
--- src/references.rt:89:5
 loop-again : tie.Need-loop-again Inv-loop μ-loop
 loop-again c = (omega arith, λ es. line-passes (inputs-earlier (record { exprs = es; steps = stored-steps (c .before .before .before .before .args .steps .now) (c .before .before .before .before .args .n) })) (stored-step (c .before .before .before .before .args .steps .now)) (c .before .before .before .before .args .n) _ (c .before .before .loop-test .taken) (sym (c .before .inputs-earlier .ensures es _ (c .before .before .loop-test .taken)) ∙ not-false _ (c .if1 .left)) (c .before .before .before .loop .inv .1 es))
 
--- src/references.rt:84:1
 returns-2 : tie.Need-returns-2 Inv-loop μ-loop
 returns-2 c = λ es. lines-pass (inputs-earlier (record { exprs = es; steps = stored-steps (c .before .before .args .steps .now) (c .before .before .args .n) })) (stored-step (c .before .before .args .steps .now)) (c .before .before .args .n) (c .before .loop .i) (omega arith) (c .before .loop .inv .1 es)
 

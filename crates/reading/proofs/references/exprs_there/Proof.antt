@@ -2,80 +2,58 @@ use Rattle.reading.proofs.Refers.{exprs-found}
 use borrow.Author.Needs.{needs}
 use Rattle.reading.proofs.references.exprs_there.Statement.{statement}
 use Rattle.reading.proofs.references.exprs_there.Tie as tie
-use Rattle.reading.proofs.references.exprs_there.Reads as reads
-use Rattle.reading.proofs.references.exprs_there.Lts as lts
-use Rattle.reading.proofs.references.all_below.Reads as all-below-reads
-use Rattle.reading.proofs.references.wide.Reads as wide-reads
 
--- src/references.rt:96:25
 mul-wide : tie.Need-mul-wide
 mul-wide c = search needs
 
--- src/references.rt:96:25
 add-wide : tie.Need-add-wide
 add-wide c = search needs
 
--- src/references.rt:96:19
 element-copy-out-wide : tie.Need-element-copy-out-wide
 element-copy-out-wide c = search needs
 
--- src/references.rt:96:9
 wide-requires : tie.Need-wide-requires
 wide-requires c κs = search needs
 
--- src/references.rt:97:25
 mul-wide-2 : tie.Need-mul-wide-2
 mul-wide-2 c = search needs
 
--- src/references.rt:97:25
 add-wide-2 : tie.Need-add-wide-2
 add-wide-2 c = search needs
 
--- src/references.rt:97:19
 element-copy-out-wide-2 : tie.Need-element-copy-out-wide-2
 element-copy-out-wide-2 c = search needs
 
--- src/references.rt:97:9
 wide-requires-2 : tie.Need-wide-requires-2
 wide-requires-2 c κs = search needs
 
--- src/references.rt:98:25
 mul-wide-3 : tie.Need-mul-wide-3
 mul-wide-3 c = search needs
 
--- src/references.rt:98:25
 add-wide-3 : tie.Need-add-wide-3
 add-wide-3 c = search needs
 
--- src/references.rt:98:19
 element-copy-out-wide-3 : tie.Need-element-copy-out-wide-3
 element-copy-out-wide-3 c = search needs
 
--- src/references.rt:98:9
 wide-requires-3 : tie.Need-wide-requires-3
 wide-requires-3 c κs = search needs
 
--- src/references.rt:99:22
 mul-all-below : tie.Need-mul-all-below
 mul-all-below c = search needs
 
--- src/references.rt:99:22
 add-all-below : tie.Need-add-all-below
 add-all-below c = search needs
 
--- src/references.rt:99:22
 add-all-below-2 : tie.Need-add-all-below-2
 add-all-below-2 c = search needs
 
--- src/references.rt:99:39
 add-all-below-3 : tie.Need-add-all-below-3
 add-all-below-3 c = search needs
 
--- src/references.rt:99:5
 all-below-requires : tie.Need-all-below-requires
 all-below-requires c κs = search needs
 
--- src/references.rt:92:1
 returns : tie.Need-returns
 returns c = exprs-found _ _ _ _ _ _ _ (c .before .before .before .before .before .before .wide .ensures .0) (c .before .before .before .before .wide2 .ensures .0) (c .before .before .wide3 .ensures .0) (c .all-below .ensures)
 

@@ -2,40 +2,28 @@ use Rattle.reading.proofs.Refers.{inputs-found}
 use borrow.Author.Needs.{needs}
 use Rattle.reading.proofs.references.inputs_earlier.Statement.{statement}
 use Rattle.reading.proofs.references.inputs_earlier.Tie as tie
-use Rattle.reading.proofs.references.inputs_earlier.Reads as reads
-use Rattle.reading.proofs.references.inputs_earlier.Lts as lts
-use Rattle.reading.proofs.references.all_before.Reads as all-before-reads
-use Rattle.reading.proofs.references.wide.Reads as wide-reads
 
--- src/references.rt:80:24
 mul-wide : tie.Need-mul-wide
 mul-wide c = search needs
 
--- src/references.rt:80:24
 add-wide : tie.Need-add-wide
 add-wide c = search needs
 
--- src/references.rt:80:18
 element-copy-out-wide : tie.Need-element-copy-out-wide
 element-copy-out-wide c = search needs
 
--- src/references.rt:80:9
 wide-requires : tie.Need-wide-requires
 wide-requires c κs = search needs
 
--- src/references.rt:81:23
 mul-all-before : tie.Need-mul-all-before
 mul-all-before c = search needs
 
--- src/references.rt:81:23
 add-all-before : tie.Need-add-all-before
 add-all-before c = search needs
 
--- src/references.rt:81:5
 all-before-requires : tie.Need-all-before-requires
 all-before-requires c κs = search needs
 
--- src/references.rt:76:1
 returns : tie.Need-returns
 returns c = λ es n h. inputs-found _ _ n h es _ _ (c .before .before .wide .ensures .0) (c .all-before .ensures)
 

@@ -3,33 +3,22 @@ use Rattle.reading.proofs.Refers.{not-children, not-inputs, all-three}
 use borrow.Author.Needs.{needs}
 use Rattle.reading.proofs.references.references_right.Statement.{statement}
 use Rattle.reading.proofs.references.references_right.Tie as tie
-use Rattle.reading.proofs.references.references_right.Reads as reads
-use Rattle.reading.proofs.references.references_right.Lts as lts
-use Rattle.reading.proofs.references.all_children_earlier.Reads as all-children-earlier-reads
-use Rattle.reading.proofs.references.all_exprs_there.Reads as all-exprs-there-reads
-use Rattle.reading.proofs.references.all_inputs_earlier.Reads as all-inputs-earlier-reads
 
--- src/references.rt:127:9
 all-children-earlier-requires : tie.Need-all-children-earlier-requires
 all-children-earlier-requires c κs = search needs
 
--- src/references.rt:128:9
 returns : tie.Need-returns
 returns c = not-children (c .before .before .args .exprs .now) (c .before .before .args .steps .now) (c .before .before .args .count) (c .before .before .args .n) (c .before .all-children-earlier .ensures) (not-true _ (c .if1 .taken))
 
--- src/references.rt:130:9
 all-inputs-earlier-requires : tie.Need-all-inputs-earlier-requires
 all-inputs-earlier-requires c κs = search needs
 
--- src/references.rt:131:9
 returns-2 : tie.Need-returns-2
 returns-2 c = not-inputs (c .before .before .before .before .args .exprs .now) (c .before .before .before .before .args .steps .now) (c .before .before .before .before .args .count) (c .before .before .before .before .args .n) (c .before .before .before .all-children-earlier .ensures) (c .before .all-inputs-earlier .ensures _) (not-false _ (c .before .before .if1 .left)) (not-true _ (c .if2 .taken))
 
--- src/references.rt:133:5
 all-exprs-there-requires : tie.Need-all-exprs-there-requires
 all-exprs-there-requires c κs = search needs
 
--- src/references.rt:123:1
 returns-3 : tie.Need-returns-3
 returns-3 c = all-three (c .before .before .before .before .before .args .exprs .now) (c .before .before .before .before .before .args .steps .now) (c .before .before .before .before .before .args .count) (c .before .before .before .before .before .args .n) (c .before .before .before .before .all-children-earlier .ensures) (c .before .before .all-inputs-earlier .ensures _) (c .all-exprs-there .ensures) (not-false _ (c .before .before .before .if1 .left)) (not-false _ (c .before .if2 .left))
 

@@ -2,33 +2,22 @@ use borrow.Author.Tests.{lt-leb, le-leb}
 use borrow.Author.Needs.{needs}
 use Rattle.reading.proofs.tables.options_fit.Statement.{statement}
 use Rattle.reading.proofs.tables.options_fit.Tie as tie
-use Rattle.reading.proofs.tables.options_fit.Reads as reads
-use Rattle.reading.proofs.tables.options_fit.Lts as lts
-use Rattle.reading.proofs.tables.most_a.Reads as most-a-reads
-use Rattle.reading.proofs.tables.most_b.Reads as most-b-reads
-use Rattle.reading.proofs.tables.most_c.Reads as most-c-reads
 
--- src/tables.rt:359:8
 most-a-requires : tie.Need-most-a-requires
 most-a-requires c κs = search needs
 
--- src/tables.rt:360:9
 returns : tie.Need-returns
 returns c = simp (← c .before .most-a .ensures, lt-leb _ _ (c .if1 .taken))
 
--- src/tables.rt:362:8
 most-b-requires : tie.Need-most-b-requires
 most-b-requires c κs = search needs
 
--- src/tables.rt:363:9
 returns-2 : tie.Need-returns-2
 returns-2 c = simp (← c .before .before .before .most-a .ensures, ← c .before .most-b .ensures, le-leb _ _ (c .before .before .if1 .left), lt-leb _ _ (c .if2 .taken))
 
--- src/tables.rt:365:10
 most-c-requires : tie.Need-most-c-requires
 most-c-requires c κs = search needs
 
--- src/tables.rt:356:1
 returns-3 : tie.Need-returns-3
 returns-3 c = simp (← c .before .before .before .before .most-a .ensures, ← c .before .before .most-b .ensures, ← c .most-c .ensures, le-leb _ _ (c .before .before .before .if1 .left), le-leb _ _ (c .before .if2 .left))
 

@@ -1,24 +1,18 @@
 -- `tables::row_of`: the code's table is that of the definition, and a test computes over the whole of it.
 use mathlib.Core.List.{map}
-use native.Mathlib.Omega.{arith}
 use Rattle.plan.specs.Sheet.{expr-table}
 use Rattle.reading.specs.Tables.{row-of, row}
 use Rattle.reading.proofs.Rows.{row-at}
 use borrow.Author.Needs.{needs}
 use Rattle.reading.proofs.tables.row_of.Statement.{statement}
 use Rattle.reading.proofs.tables.row_of.Tie as tie
-use Rattle.reading.proofs.tables.row_of.Reads as reads
-use Rattle.reading.proofs.tables.row_of.Lts as lts
 
--- src/tables.rt:154:5
 mul-result : tie.Need-mul-result
 mul-result c = search needs
 
--- src/tables.rt:154:5
 array-copy-out-result : tie.Need-array-copy-out-result
 array-copy-out-result c = search needs
 
--- src/tables.rt:150:1
 returns : tie.Need-returns
 unfolding row expr-table
 returns c = row-at (map row-of expr-table) (row-of (0, 0, 0)) tt (c .before .args .kind) (c .before .pre)

@@ -1,14 +1,10 @@
 use borrow.Author.Tests.{lt-leb, le-leb}
 use Rattle.reading.proofs.tables.within.Statement.{statement}
 use Rattle.reading.proofs.tables.within.Tie as tie
-use Rattle.reading.proofs.tables.within.Reads as reads
-use Rattle.reading.proofs.tables.within.Lts as lts
 
--- src/tables.rt:345:9
 returns : tie.Need-returns
 returns c = simp (lt-leb _ _ (c .if1 .taken))
 
--- src/tables.rt:341:1
 returns-2 : tie.Need-returns-2
 returns-2 c = simp (le-leb _ _ (c .before .if1 .left))
 

@@ -12,9 +12,6 @@ use Rattle.reading.proofs.Scans.{lines-from, line-fails, line-passes, l
 use Rattle.reading.proofs.Refers.{steps-first}
 use Rattle.reading.proofs.uses.all_ids_once.Statement.{statement}
 use Rattle.reading.proofs.uses.all_ids_once.Tie as tie
-use Rattle.reading.proofs.uses.all_ids_once.Reads as reads
-use Rattle.reading.proofs.uses.all_ids_once.Lts as lts
-use Rattle.reading.proofs.uses.id_once.Reads as id-once-reads
 
 abbrev Inv-loop : tie.InvT-loop
 Inv-loop counts steps n i₀ i = (i ≤ n) × ((names : List ℕ) → Counted counts names → all? (id-once-in names) (numbered 0 (stored-steps steps n)) ≡ lines-from (id-once-in names) (stored-step steps) n i)
@@ -22,51 +19,39 @@ Inv-loop counts steps n i₀ i = (i ≤ n) × ((names : List ℕ) → Counted co
 abbrev μ-loop : tie.MeasureT-loop
 μ-loop counts steps n i₀ i = n - i
 
--- src/uses.rt:156:5
 loop-holds : tie.Need-loop-holds Inv-loop μ-loop
 loop-holds c = (omega arith, λ names k. steps-first (id-once-in names) (c .args .steps .now) (c .args .n))
 
--- src/uses.rt:157:35
 mul-id-once : tie.Need-mul-id-once Inv-loop μ-loop
 mul-id-once c = omega arith
 
--- src/uses.rt:157:29
 element-copy-out-id-once : tie.Need-element-copy-out-id-once Inv-loop μ-loop
 element-copy-out-id-once c = omega arith
 
--- src/uses.rt:157:50
 mul-id-once-2 : tie.Need-mul-id-once-2 Inv-loop μ-loop
 mul-id-once-2 c = omega arith
 
--- src/uses.rt:157:50
 add-id-once : tie.Need-add-id-once Inv-loop μ-loop
 add-id-once c = omega arith
 
--- src/uses.rt:157:44
 element-copy-out-id-once-2 : tie.Need-element-copy-out-id-once-2 Inv-loop μ-loop
 element-copy-out-id-once-2 c = omega arith
 
--- src/uses.rt:157:13
 id-once-requires : tie.Need-id-once-requires Inv-loop μ-loop
 id-once-requires c κs = search needs
 
--- src/uses.rt:158:13
 returns : tie.Need-returns Inv-loop μ-loop
 returns c = λ names k. line-fails (id-once-in names) (stored-step (c .before .before .before .before .before .before .args .steps .now)) (c .before .before .before .before .before .before .args .n) (c .before .before .before .before .before .loop .i) (c .before .before .before .before .loop-test .taken) (sym (id-is _ names (c .before .before .before .before .before .loop .i) (c .before .id-once .ensures names k)) ∙ not-true _ (c .if1 .taken)) (c .before .before .before .before .before .loop .inv .1 names k)
 
--- src/uses.rt:160:9
 add-i : tie.Need-add-i Inv-loop μ-loop
 add-i c = omega arith
 
--- src/uses.rt:156:5
 loop-less : tie.Need-loop-less Inv-loop μ-loop
 loop-less c = omega arith
 
--- src/uses.rt:156:5
 loop-again : tie.Need-loop-again Inv-loop μ-loop
 loop-again c = (omega arith, λ names k. line-passes (id-once-in names) (stored-step (c .before .before .before .before .before .before .args .steps .now)) (c .before .before .before .before .before .before .args .n) (c .before .before .before .before .before .loop .i) (c .before .before .before .before .loop-test .taken) (sym (id-is _ names (c .before .before .before .before .before .loop .i) (c .before .id-once .ensures names k)) ∙ not-false _ (c .if1 .left)) (c .before .before .before .before .before .loop .inv .1 names k))
 
--- src/uses.rt:151:1
 returns-2 : tie.Need-returns-2 Inv-loop μ-loop
 returns-2 c = λ names k. lines-pass (id-once-in names) (stored-step (c .before .before .args .steps .now)) (c .before .before .args .n) (c .before .loop .i) (omega arith) (c .before .loop .inv .1 names k)
 

@@ -3,31 +3,22 @@ use Rattle.reading.proofs.Names.{up, full}
 use borrow.Author.Needs.{needs}
 use Rattle.reading.proofs.uses.count.Statement.{statement}
 use Rattle.reading.proofs.uses.count.Tie as tie
-use Rattle.reading.proofs.uses.count.Reads as reads
-use Rattle.reading.proofs.uses.count.Lts as lts
-use Rattle.reading.proofs.uses.wide.Reads as wide-reads
 
--- src/uses.rt:24:9
 wide-requires : tie.Need-wide-requires
 wide-requires c κs = search needs
 
--- src/uses.rt:25:13
 element-copy-out-c : tie.Need-element-copy-out-c
 element-copy-out-c c = search needs
 
--- src/uses.rt:27:22
 add-counts : tie.Need-add-counts
 add-counts c = search needs
 
--- src/uses.rt:27:9
 element-write-counts : tie.Need-element-write-counts
 element-write-counts c = search needs
 
--- src/uses.rt:21:1
 returns : tie.Need-returns
 returns c = up _ _ _ (c .before .before .wide .ensures .0) (omega arith) (omega arith)
 
--- src/uses.rt:21:1
 returns-2 : tie.Need-returns-2
 returns-2 c = full _ _ _ (c .before .before .wide .ensures .0) (omega arith) (omega arith)
 

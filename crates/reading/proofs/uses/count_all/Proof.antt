@@ -6,9 +6,6 @@ use lib.ListN.{take, drop}
 use Rattle.reading.proofs.Names.{Onward, start, and-more, open-names, next-taken, close-names}
 use Rattle.reading.proofs.uses.count_all.Statement.{statement}
 use Rattle.reading.proofs.uses.count_all.Tie as tie
-use Rattle.reading.proofs.uses.count_all.Reads as reads
-use Rattle.reading.proofs.uses.count_all.Lts as lts
-use Rattle.reading.proofs.uses.count.Reads as count-reads
 
 abbrev Inv-loop : tie.InvT-loop
 Inv-loop counts₀ bytes at n j₀ counts j = (j ≤ n) × Onward counts₀ counts (take j (drop at bytes))
@@ -16,35 +13,27 @@ Inv-loop counts₀ bytes at n j₀ counts j = (j ≤ n) × Onward counts₀ coun
 abbrev μ-loop : tie.MeasureT-loop
 μ-loop counts₀ bytes at n j₀ counts j = n - j
 
--- src/uses.rt:37:5
 loop-holds : tie.Need-loop-holds Inv-loop μ-loop
 loop-holds c = (omega arith, start _ _ (refl))
 
--- src/uses.rt:38:29
 add-count : tie.Need-add-count Inv-loop μ-loop
 add-count c = omega arith
 
--- src/uses.rt:38:23
 shared-slice-read-count : tie.Need-shared-slice-read-count Inv-loop μ-loop
 shared-slice-read-count c = omega arith
 
--- src/uses.rt:38:9
 count-requires : tie.Need-count-requires Inv-loop μ-loop
 count-requires c κs = search needs
 
--- src/uses.rt:39:9
 add-j : tie.Need-add-j Inv-loop μ-loop
 add-j c = omega arith
 
--- src/uses.rt:37:5
 loop-less : tie.Need-loop-less Inv-loop μ-loop
 loop-less c = omega arith
 
--- src/uses.rt:37:5
 loop-again : tie.Need-loop-again Inv-loop μ-loop
 loop-again c = (omega arith, and-more _ _ _ _ _ _ (c .before .before .before .before .loop .inv .1) (open-names (c .count .ensures)) (next-taken (c .before .before .before .before .before .before .args .bytes .now) (c .before .before .before .before .before .before .args .at) (c .before .before .before .before .loop .j) (omega arith)))
 
--- src/uses.rt:32:1
 returns : tie.Need-returns Inv-loop μ-loop
 returns c = close-names _ _ _ _ (c .before .loop .inv .1) (ap (λ k. take k (drop (c .before .before .before .args .at) (c .before .before .before .args .bytes .now))) (let e : c .before .loop .j ≡ c .before .before .before .args .n = omega arith in e))
 

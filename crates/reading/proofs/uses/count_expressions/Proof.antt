@@ -7,10 +7,6 @@ use Rattle.reading.specs.Uses.{all-both}
 use Rattle.reading.proofs.Names.{Onward, start, no-both, and-more, open-names, more-both, close-names}
 use Rattle.reading.proofs.uses.count_expressions.Statement.{statement}
 use Rattle.reading.proofs.uses.count_expressions.Tie as tie
-use Rattle.reading.proofs.uses.count_expressions.Reads as reads
-use Rattle.reading.proofs.uses.count_expressions.Lts as lts
-use Rattle.reading.proofs.uses.count_all.Reads as count-all-reads
-use Rattle.reading.proofs.uses.wide.Reads as wide-reads
 
 abbrev Inv-loop : tie.InvT-loop
 Inv-loop counts₀ steps n i₀ counts i = (i ≤ n) × Onward counts₀ counts (all-both (stored-steps steps i))
@@ -18,91 +14,69 @@ Inv-loop counts₀ steps n i₀ counts i = (i ≤ n) × Onward counts₀ counts 
 abbrev μ-loop : tie.MeasureT-loop
 μ-loop counts₀ steps n i₀ counts i = n - i
 
--- src/uses.rt:62:5
 loop-holds : tie.Need-loop-holds Inv-loop μ-loop
 loop-holds c = (omega arith, start _ _ (no-both _))
 
--- src/uses.rt:63:29
 mul-wide : tie.Need-mul-wide Inv-loop μ-loop
 mul-wide c = omega (arith, c .before .before .pre .few)
 
--- src/uses.rt:63:29
 add-wide : tie.Need-add-wide Inv-loop μ-loop
 add-wide c = omega (arith, c .before .before .pre .few)
 
--- src/uses.rt:63:23
 element-copy-out-wide : tie.Need-element-copy-out-wide Inv-loop μ-loop
 element-copy-out-wide c = omega (arith, c .before .before .pre .few)
 
--- src/uses.rt:63:13
 wide-requires : tie.Need-wide-requires Inv-loop μ-loop
 wide-requires c κs = search needs
 
--- src/uses.rt:64:29
 mul-wide-2 : tie.Need-mul-wide-2 Inv-loop μ-loop
 mul-wide-2 c = omega (arith, c .before .before .before .before .pre .few)
 
--- src/uses.rt:64:29
 add-wide-2 : tie.Need-add-wide-2 Inv-loop μ-loop
 add-wide-2 c = omega (arith, c .before .before .before .before .pre .few)
 
--- src/uses.rt:64:23
 element-copy-out-wide-2 : tie.Need-element-copy-out-wide-2 Inv-loop μ-loop
 element-copy-out-wide-2 c = omega (arith, c .before .before .before .before .pre .few)
 
--- src/uses.rt:64:13
 wide-requires-2 : tie.Need-wide-requires-2 Inv-loop μ-loop
 wide-requires-2 c κs = omega arith
 
--- src/uses.rt:65:29
 mul-wide-3 : tie.Need-mul-wide-3 Inv-loop μ-loop
 mul-wide-3 c = omega (arith, c .before .before .before .before .before .before .pre .few)
 
--- src/uses.rt:65:29
 add-wide-3 : tie.Need-add-wide-3 Inv-loop μ-loop
 add-wide-3 c = omega (arith, c .before .before .before .before .before .before .pre .few)
 
--- src/uses.rt:65:23
 element-copy-out-wide-3 : tie.Need-element-copy-out-wide-3 Inv-loop μ-loop
 element-copy-out-wide-3 c = omega (arith, c .before .before .before .before .before .before .pre .few)
 
--- src/uses.rt:65:13
 wide-requires-3 : tie.Need-wide-requires-3 Inv-loop μ-loop
 wide-requires-3 c κs = omega arith
 
--- src/uses.rt:66:34
 mul-count-all : tie.Need-mul-count-all Inv-loop μ-loop
 mul-count-all c = omega (arith, c .before .before .before .before .before .before .before .before .before .before .pre .few)
 
--- src/uses.rt:66:34
 add-count-all : tie.Need-add-count-all Inv-loop μ-loop
 add-count-all c = omega (arith, c .before .before .before .before .before .before .before .before .before .before .pre .few)
 
--- src/uses.rt:66:34
 add-count-all-2 : tie.Need-add-count-all-2 Inv-loop μ-loop
 add-count-all-2 c = omega (arith, c .before .before .before .before .before .before .before .before .before .before .pre .few)
 
--- src/uses.rt:66:51
 add-count-all-3 : tie.Need-add-count-all-3 Inv-loop μ-loop
 add-count-all-3 c = omega (arith, c .before .before .before .before .before .before .before .before .before .before .pre .few)
 
--- src/uses.rt:66:9
 count-all-requires : tie.Need-count-all-requires Inv-loop μ-loop
 count-all-requires c κs = let h = c .before .before .before .before .before .before .before .before .before .before .pre .each _ (c .before .before .before .before .before .before .before .before .loop-test .taken) in omega (arith, c .before .before .before .before .before .before .before .before .before .before .pre .few, h .inputs, h .firsts, h .seconds)
 
--- src/uses.rt:67:9
 add-i : tie.Need-add-i Inv-loop μ-loop
 add-i c = omega (arith, c .before .before .before .before .before .before .before .before .before .before .before .pre .few)
 
--- src/uses.rt:62:5
 loop-less : tie.Need-loop-less Inv-loop μ-loop
 loop-less c = omega arith
 
--- src/uses.rt:62:5
 loop-again : tie.Need-loop-again Inv-loop μ-loop
 loop-again c = (omega arith, and-more _ _ _ _ _ _ (c .before .before .before .before .before .before .before .before .before .before .loop .inv .1) (open-names (c .count-all .ensures)) (more-both _ _ _ _ _ (c .before .before .before .before .before .before .before .wide .ensures .0) (c .before .before .before .before .before .wide2 .ensures .0) (c .before .before .before .wide3 .ensures .0)))
 
--- src/uses.rt:57:1
 returns : tie.Need-returns Inv-loop μ-loop
 returns c = close-names _ _ _ _ (c .before .loop .inv .1) (ap (λ k. all-both (stored-steps (c .before .before .args .steps .now) k)) (let e : c .before .loop .i ≡ c .before .before .args .n = omega arith in e))
 

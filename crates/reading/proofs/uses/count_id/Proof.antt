@@ -1,21 +1,14 @@
-use native.Mathlib.Omega.{arith}
 use Rattle.reading.proofs.Names.{id-line, other-line}
 use borrow.Author.Needs.{needs}
 use Rattle.reading.proofs.uses.count_id.Statement.{statement}
 use Rattle.reading.proofs.uses.count_id.Tie as tie
-use Rattle.reading.proofs.uses.count_id.Reads as reads
-use Rattle.reading.proofs.uses.count_id.Lts as lts
-use Rattle.reading.proofs.uses.count.Reads as count-reads
 
--- src/uses.rt:89:9
 count-requires : tie.Need-count-requires
 count-requires c κs = search needs
 
--- src/uses.rt:85:1
 returns : tie.Need-returns
 returns c = id-line (c .before .before .before .args .kind) _ _ _ (c .before .before .if1 .taken) (c .count .ensures)
 
--- src/uses.rt:85:1
 returns-2 : tie.Need-returns-2
 returns-2 c = other-line _ _ _ (c .if1 .left)
 

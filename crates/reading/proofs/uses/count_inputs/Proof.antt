@@ -7,10 +7,6 @@ use Rattle.plan.specs.Stored.{stored-steps}
 use Rattle.reading.proofs.Names.{Onward, start, no-inputs, and-more, open-names, more-inputs, close-names}
 use Rattle.reading.proofs.uses.count_inputs.Statement.{statement}
 use Rattle.reading.proofs.uses.count_inputs.Tie as tie
-use Rattle.reading.proofs.uses.count_inputs.Reads as reads
-use Rattle.reading.proofs.uses.count_inputs.Lts as lts
-use Rattle.reading.proofs.uses.count_all.Reads as count-all-reads
-use Rattle.reading.proofs.uses.wide.Reads as wide-reads
 
 abbrev Inv-loop : tie.InvT-loop
 Inv-loop counts₀ steps n i₀ counts i = (i ≤ n) × Onward counts₀ counts (named (stored-steps steps i))
@@ -18,51 +14,39 @@ Inv-loop counts₀ steps n i₀ counts i = (i ≤ n) × Onward counts₀ counts 
 abbrev μ-loop : tie.MeasureT-loop
 μ-loop counts₀ steps n i₀ counts i = n - i
 
--- src/uses.rt:77:5
 loop-holds : tie.Need-loop-holds Inv-loop μ-loop
 loop-holds c = (omega arith, start _ _ (no-inputs _))
 
--- src/uses.rt:78:29
 mul-wide : tie.Need-mul-wide Inv-loop μ-loop
 mul-wide c = omega (arith, c .before .before .pre .few)
 
--- src/uses.rt:78:29
 add-wide : tie.Need-add-wide Inv-loop μ-loop
 add-wide c = omega (arith, c .before .before .pre .few)
 
--- src/uses.rt:78:23
 element-copy-out-wide : tie.Need-element-copy-out-wide Inv-loop μ-loop
 element-copy-out-wide c = omega (arith, c .before .before .pre .few)
 
--- src/uses.rt:78:13
 wide-requires : tie.Need-wide-requires Inv-loop μ-loop
 wide-requires c κs = search needs
 
--- src/uses.rt:79:34
 mul-count-all : tie.Need-mul-count-all Inv-loop μ-loop
 mul-count-all c = omega (arith, c .before .before .before .before .before .before .pre .few)
 
--- src/uses.rt:79:34
 add-count-all : tie.Need-add-count-all Inv-loop μ-loop
 add-count-all c = omega (arith, c .before .before .before .before .before .before .pre .few)
 
--- src/uses.rt:79:9
 count-all-requires : tie.Need-count-all-requires Inv-loop μ-loop
 count-all-requires c κs = omega (arith, c .before .before .before .before .before .before .pre .few, c .before .before .before .before .before .before .pre .each _ (c .before .before .before .before .loop-test .taken) .inputs)
 
--- src/uses.rt:80:9
 add-i : tie.Need-add-i Inv-loop μ-loop
 add-i c = omega (arith, c .before .before .before .before .before .before .before .pre .few)
 
--- src/uses.rt:77:5
 loop-less : tie.Need-loop-less Inv-loop μ-loop
 loop-less c = omega arith
 
--- src/uses.rt:77:5
 loop-again : tie.Need-loop-again Inv-loop μ-loop
 loop-again c = (omega arith, and-more _ _ _ _ _ _ (c .before .before .before .before .before .before .loop .inv .1) (open-names (c .count-all .ensures)) (more-inputs _ _ _ (c .before .before .before .wide .ensures .0)))
 
--- src/uses.rt:72:1
 returns : tie.Need-returns Inv-loop μ-loop
 returns c = close-names _ _ _ _ (c .before .loop .inv .1) (ap (λ k. named (stored-steps (c .before .before .args .steps .now) k)) (let e : c .before .loop .i ≡ c .before .before .args .n = omega arith in e))
 

@@ -11,8 +11,6 @@ use Rattle.reading.proofs.Scans.{lines-from, line-fails, line-passes, l
 use Rattle.reading.proofs.Refers.{exprs-first}
 use Rattle.reading.proofs.uses.each_once.Statement.{statement}
 use Rattle.reading.proofs.uses.each_once.Tie as tie
-use Rattle.reading.proofs.uses.each_once.Reads as reads
-use Rattle.reading.proofs.uses.each_once.Lts as lts
 
 abbrev Inv-loop : tie.InvT-loop
 Inv-loop counts n i₀ i = (i ≤ n) × ((es names : List ℕ) → Counted counts names → all? (once-in names) (numbered 0 (stored-exprs es n)) ≡ lines-from (once-in names) (stored-expr es) n i)
@@ -20,31 +18,24 @@ Inv-loop counts n i₀ i = (i ≤ n) × ((es names : List ℕ) → Counted count
 abbrev μ-loop : tie.MeasureT-loop
 μ-loop counts n i₀ i = n - i
 
--- src/uses.rt:111:5
 loop-holds : tie.Need-loop-holds Inv-loop μ-loop
 loop-holds c = (omega arith, λ es names k. exprs-first (once-in names) es (c .args .n))
 
--- src/uses.rt:112:12
 element-copy-out-if1 : tie.Need-element-copy-out-if1 Inv-loop μ-loop
 element-copy-out-if1 c = omega arith
 
--- src/uses.rt:113:13
 returns : tie.Need-returns Inv-loop μ-loop
 returns c = λ es names k. line-fails (once-in names) (stored-expr es) (c .before .before .before .before .args .n) (c .before .before .before .loop .i) (c .before .before .loop-test .taken) (sym (once-is _ names k (c .before .before .before .loop .i) (omega arith)) ∙ ne-eqb _ _ (c .if1 .taken)) (c .before .before .before .loop .inv .1 es names k)
 
--- src/uses.rt:115:9
 add-i : tie.Need-add-i Inv-loop μ-loop
 add-i c = omega arith
 
--- src/uses.rt:111:5
 loop-less : tie.Need-loop-less Inv-loop μ-loop
 loop-less c = omega arith
 
--- src/uses.rt:111:5
 loop-again : tie.Need-loop-again Inv-loop μ-loop
 loop-again c = (omega arith, λ es names k. line-passes (once-in names) (stored-expr es) (c .before .before .before .before .args .n) (c .before .before .before .loop .i) (c .before .before .loop-test .taken) (sym (once-is _ names k (c .before .before .before .loop .i) (omega arith)) ∙ eq-eqb _ _ (c .if1 .left)) (c .before .before .before .loop .inv .1 es names k))
 
--- src/uses.rt:106:1
 returns-2 : tie.Need-returns-2 Inv-loop μ-loop
 returns-2 c = λ es names k. lines-pass (once-in names) (stored-expr es) (c .before .before .args .n) (c .before .loop .i) (omega arith) (c .before .loop .inv .1 es names k)
 

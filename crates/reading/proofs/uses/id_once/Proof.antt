@@ -6,23 +6,16 @@ use Rattle.reading.proofs.Names.{other-kind, cache-kind, once-is}
 use borrow.Author.Needs.{needs}
 use Rattle.reading.proofs.uses.id_once.Statement.{statement}
 use Rattle.reading.proofs.uses.id_once.Tie as tie
-use Rattle.reading.proofs.uses.id_once.Reads as reads
-use Rattle.reading.proofs.uses.id_once.Lts as lts
-use Rattle.reading.proofs.uses.wide.Reads as wide-reads
 
--- src/uses.rt:145:9
 returns : tie.Need-returns
 returns c = λ names k. other-kind _ _ (c .if1 .taken)
 
--- src/uses.rt:147:9
 wide-requires : tie.Need-wide-requires
 wide-requires c κs = search needs
 
--- src/uses.rt:148:5
 element-copy-out-result : tie.Need-element-copy-out-result
 element-copy-out-result c = search needs
 
--- src/uses.rt:141:1
 returns-2 : tie.Need-returns-2
 returns-2 c = λ names k. cache-kind (c .before .before .before .args .kind) (omega arith) (ap (λ i. eqb (getD (c .before .before .before .args .counts .now) i 0) 1) (c .before .wide .ensures .0) ∙ once-is _ names k _ (omega arith))
 

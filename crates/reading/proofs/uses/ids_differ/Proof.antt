@@ -3,20 +3,13 @@ use Rattle.reading.proofs.Names.{ids-counted, none-counted}
 use borrow.Author.Needs.{needs}
 use Rattle.reading.proofs.uses.ids_differ.Statement.{statement}
 use Rattle.reading.proofs.uses.ids_differ.Tie as tie
-use Rattle.reading.proofs.uses.ids_differ.Reads as reads
-use Rattle.reading.proofs.uses.ids_differ.Lts as lts
-use Rattle.reading.proofs.uses.all_ids_once.Reads as all-ids-once-reads
-use Rattle.reading.proofs.uses.count_ids.Reads as count-ids-reads
 
--- src/uses.rt:192:5
 count-ids-requires : tie.Need-count-ids-requires
 count-ids-requires c κs = search needs
 
--- src/uses.rt:193:5
 all-ids-once-requires : tie.Need-all-ids-once-requires
 all-ids-once-requires c κs = search needs
 
--- src/uses.rt:187:1
 returns : tie.Need-returns
 returns c = ids-counted [] (c .before .before .before .before .args .steps .now) 0 (c .before .before .before .before .args .n) (c .all-ids-once .ensures _ (c .before .before .count-ids .ensures [] none-counted))
 

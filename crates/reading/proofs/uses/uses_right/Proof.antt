@@ -3,33 +3,22 @@ use Rattle.reading.proofs.Names.{not-exprs, not-steps, all-uses}
 use borrow.Author.Needs.{needs}
 use Rattle.reading.proofs.uses.uses_right.Statement.{statement}
 use Rattle.reading.proofs.uses.uses_right.Tie as tie
-use Rattle.reading.proofs.uses.uses_right.Reads as reads
-use Rattle.reading.proofs.uses.uses_right.Lts as lts
-use Rattle.reading.proofs.uses.exprs_used_once.Reads as exprs-used-once-reads
-use Rattle.reading.proofs.uses.ids_differ.Reads as ids-differ-reads
-use Rattle.reading.proofs.uses.steps_used.Reads as steps-used-reads
 
--- src/uses.rt:200:9
 exprs-used-once-requires : tie.Need-exprs-used-once-requires
 exprs-used-once-requires c κs = search needs
 
--- src/uses.rt:201:9
 returns : tie.Need-returns
 returns c = not-exprs (c .before .before .args .exprs .now) (c .before .before .args .steps .now) (c .before .before .args .count) (c .before .before .args .n) (c .before .exprs-used-once .ensures) (not-true _ (c .if1 .taken))
 
--- src/uses.rt:203:9
 steps-used-requires : tie.Need-steps-used-requires
 steps-used-requires c κs = search needs
 
--- src/uses.rt:204:9
 returns-2 : tie.Need-returns-2
 returns-2 c = not-steps (c .before .before .before .before .args .exprs .now) (c .before .before .before .before .args .steps .now) (c .before .before .before .before .args .count) (c .before .before .before .before .args .n) (c .before .before .before .exprs-used-once .ensures) (c .before .steps-used .ensures) (not-false _ (c .before .before .if1 .left)) (not-true _ (c .if2 .taken))
 
--- src/uses.rt:206:5
 ids-differ-requires : tie.Need-ids-differ-requires
 ids-differ-requires c κs = search needs
 
--- src/uses.rt:196:1
 returns-3 : tie.Need-returns-3
 returns-3 c = all-uses (c .before .before .before .before .before .args .exprs .now) (c .before .before .before .before .before .args .steps .now) (c .before .before .before .before .before .args .count) (c .before .before .before .before .before .args .n) (c .before .before .before .before .exprs-used-once .ensures) (c .before .before .steps-used .ensures) (c .ids-differ .ensures) (not-false _ (c .before .before .before .if1 .left)) (not-false _ (c .before .if2 .left))
 
