@@ -17,7 +17,7 @@ use Rattle.plan.specs.Lists.{if_then_else_, all?, numbered, among, times, rest}
 use Rattle.plan.specs.Sheet.{Expr, expr-at, no-expr}
 use Rattle.plan.specs.Faults.{children-earlier, evaluated, fields-right}
 use Rattle.plan.specs.Stored.{stored-expr, stored-exprs, table}
-use Rattle.reading.specs.Held.{children-of}
+use Rattle.reading.specs.Held.{children-of, Exprs-held}
 use Rattle.reading.specs.Uses.{capped, Counted}
 use Rattle.reading.specs.Marks.{marked-by, markings, field-marked}
 use Rattle.reading.proofs.Stores.{table-length}
@@ -29,6 +29,9 @@ use Rattle.reading.proofs.Members.{In, here, there, not-in-none, in-lef
 
 evaluates-is : (es : List ℕ) (i : ℕ) → same-aexpr (stored-expr es i .kind) AExpr.StructEval ≡ eqb (getD es (i * 16) 0) 15
 evaluates-is es i = ap (λ k. same-aexpr k AExpr.StructEval) (kind-of es i) ∙ expr-kind-is (getD es (i * 16) 0) 15 (omega arith) (omega arith)
+
+pub few-children : {es : List ℕ} {n : ℕ} → Exprs-held es n → (i : ℕ) → i < n → children-of es i ≤ 8
+few-children h i l = h .formed i l .count
 
 rest-taken : (m : ℕ) (l : List ℕ) → rest (take (suc m) l) ≡ take m (drop 1 l)
 rest-taken m [] = sym (take-nil m)

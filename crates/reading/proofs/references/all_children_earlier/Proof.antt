@@ -25,7 +25,7 @@ loop-holds c = (omega arith, exprs-first children-earlier (c .args .exprs .now) 
 
 -- src/references.rt:48:13
 children-earlier-requires : tie.Need-children-earlier-requires Inv-loop μ-loop
-children-earlier-requires c κs = (omega (arith, c .before .before .pre .few), c .before .before .pre .children _ (c .loop-test .taken))
+children-earlier-requires c κs = (omega (arith, c .before .before .pre .few), c .before .before .pre .formed _ (c .loop-test .taken) .count)
 
 -- src/references.rt:49:13
 returns : tie.Need-returns Inv-loop μ-loop

@@ -48,7 +48,7 @@ add-count-all c = omega (arith, c .before .before .before .before .before .befor
 
 -- src/uses.rt:51:9
 count-all-requires : tie.Need-count-all-requires Inv-loop μ-loop
-count-all-requires c κs = omega (arith, c .before .before .before .before .before .before .pre .few, c .before .before .before .before .before .before .pre .children _ (c .before .before .before .before .loop-test .taken))
+count-all-requires c κs = omega (arith, c .before .before .before .before .before .before .pre .few, c .before .before .before .before .before .before .pre .formed _ (c .before .before .before .before .loop-test .taken) .count)
 
 -- src/uses.rt:52:9
 add-i : tie.Need-add-i Inv-loop μ-loop

@@ -48,7 +48,7 @@ add-count-all c = omega (arith, c .before .before .before .before .before .befor
 
 -- src/uses.rt:79:9
 count-all-requires : tie.Need-count-all-requires Inv-loop μ-loop
-count-all-requires c κs = omega (arith, c .before .before .before .before .before .before .pre .few, c .before .before .before .before .before .before .pre .each _ (c .before .before .before .before .loop-test .taken) .inputs)
+count-all-requires c κs = omega (arith, c .before .before .before .before .before .before .pre .few, c .before .before .before .before .before .before .pre .each _ (c .before .before .before .before .loop-test .taken) .formed .n1)
 
 -- src/uses.rt:80:9
 add-i : tie.Need-add-i Inv-loop μ-loop
