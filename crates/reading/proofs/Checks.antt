@@ -1,27 +1,30 @@
 -- What a line that was read comes to.
 use mathlib.Core.Path.{_≡_, refl, sym, ap, _∙_, subst}
 use mathlib.Core.Bool.{Bool, true, false, _&&_, _||_, not}
-use mathlib.Core.List.{List, [], _∷_, _++_}
+use mathlib.Core.List.{List, [], _∷_, _++_, append-nil}
 use mathlib.Core.Option.{Option, none, some}
 use Prim.Native.Nat.{ℕ, zero, suc, _+_, _*_, _-_, _<_, _≤_}
 use native.Mathlib.Numerals.{add-one}
 use native.Mathlib.Omega.{arith}
-use lib.Dec.{eqb, ltb, leb}
-use lib.ListN.{length, getD, take, drop, set, length-drop, length-append}
-use lib.Seq.{ext-getD, getD-take, length-take-le}
-use borrow.Author.Tests.{ltb-true, eqb-true, lt-ltb, le-ltb, le-leb, lt-leb}
+use native.Mathlib.Nat.{not-suc-le-zero}
+use lib.Dec.{T, eqb, ltb, leb, eqb→eq, ltb→lt}
+use lib.ListN.{length, getD, take, drop, set, length-drop, length-append, length-take}
+use lib.Seq.{ext-getD, getD-take, length-take-le, drop-drop}
+use borrow.Author.Tests.{ltb-true, leb-true, eqb-true, lt-ltb, le-ltb, le-leb, lt-leb, eq-eqb, ne-eqb}
+use Rattle.plan.specs.declared.aexpr.AExpr.{AExpr}
 use Rattle.plan.specs.declared.ir.IR.{IR}
-use Rattle.plan.specs.Kinds.{aexpr-number, ir-number, same-ir}
+use Rattle.plan.specs.Kinds.{aexpr-number, ir-number, same-ir, aexpr, same-aexpr, ir}
 use Rattle.plan.specs.KindNumbers.{aexpr-there, ir-there}
 use Rattle.plan.specs.Lists.{if_then_else_, sum, empty?, same, yes?}
-use Rattle.plan.specs.Sheet.{Expr, Step, Sheet, E, P, refused, done, refuse_when_else_, numbers, lettered, expr-of, step-of, expr-fits, step-fits, in-expr-table, in-step-table, expr-count, over-limits, with-expr, with-step, read-line}
+use Rattle.plan.specs.Sheet.{Expr, Step, Sheet, E, P, refused, done, refuse_when_else_, numbers, lettered, expr-of, step-of, expr-fits, step-fits, in-expr-table, in-step-table, expr-count, over-limits, with-expr, with-step, read-line, Line, Outcome, parts, onto, line-of, expr-table, step-table}
 use Rattle.plan.specs.Stored.{stored-exprs, stored-steps, stored-expr, stored-step, table}
-use Rattle.reading.specs.Line.{line, ended, numbers-after, numbers-of, Kept, All-read}
-use Rattle.reading.specs.Tables.{row, expr-numbers-fit, step-numbers-fit, most-a, most-b, most-c, inputs, exprs, most-aggs, within}
-use Rattle.reading.specs.Lines.{pasted, sheet-of, agg-entries, aggs-of, Sound, Line-taken}
+use Rattle.reading.specs.Line.{line, ended, numbers-after, numbers-of, Kept, All-read, line-here}
+use Rattle.reading.specs.Tables.{row, expr-numbers-fit, step-numbers-fit, most-a, most-b, most-c, inputs, exprs, most-aggs, within, row-of}
+use Rattle.reading.specs.Lines.{pasted, sheet-of, agg-entries, aggs-of, Sound, Line-taken, Line-read}
 use Rattle.reading.specs.declared.line.Numbers.{Numbers}
 use Rattle.reading.specs.declared.lines.Tally.{Tally}
-use Rattle.reading.proofs.Stores.{table-length, step-take, more-exprs, counts-small, more-steps, entries-small}
+use Rattle.reading.proofs.Spans.{and-left, and-right}
+use Rattle.reading.proofs.Stores.{table-length, step-take, more-exprs, exprs-formed, more-steps, steps-formed}
 
 -- The tables by a line's numbers ---------------------------------------------------------------------------------------------
 
@@ -96,6 +99,16 @@ step-fits-is ns = by (ltb (getD ns 0 0) 19) (eqb (length ns) (7 + getD ns 4 0 + 
         (inputs-length ns s) (exprs-length ns s) (aggs-length ns s))
 
 -- what a line that fits is known to have
+pub fit-expr : (k s l a n : ℕ) → expr-numbers-fit k s l a n ≡ true → (k < 25) × ((s ≤ 1) × (l ≤ 1))
+unfolding expr-numbers-fit
+fit-expr k s l a n h = by (ltb k 25) (leb s 1) (leb l 1) _ refl refl refl h
+  where
+    by : (p q r x : Bool) → ltb k 25 ≡ p → leb s 1 ≡ q → leb l 1 ≡ r → (p && q && r && x) ≡ true → (k < 25) × ((s ≤ 1) × (l ≤ 1))
+    by true true true x d e f g = (ltb-true k 25 d, (leb-true s 1 e, leb-true l 1 f))
+    by true true false x d e f g = let w : _≡_ {A = ℕ} 0 1 = cc in absurd (omega arith)
+    by true false r x d e f g = let w : _≡_ {A = ℕ} 0 1 = cc in absurd (omega arith)
+    by false q r x d e f g = let w : _≡_ {A = ℕ} 0 1 = cc in absurd (omega arith)
+
 pub fit-kind : (k a b c n1 n2 n3 n : ℕ) → step-numbers-fit k a b c n1 n2 n3 n ≡ true → (k < 19) × (n ≡ 7 + n1 + n2 + n3)
 unfolding step-numbers-fit
 fit-kind k a b c n1 n2 n3 n h = by (ltb k 19) (eqb n (7 + n1 + n2 + n3)) _ _ _ refl refl h
@@ -333,7 +346,8 @@ module _ (s : List ℕ) (f : Numbers) (A : All-read s f) where
           E-taken es′ n c l p =
               let q : 4 + (f .count - 4) ≡ length (A .list) = (let z = A .count in omega arith) in
               let u : take (4 + (f .count - 4)) (f .v) ≡ A .list = ap (λ m. take m (f .v)) q ∙ kept-all (A .list) (f .v) (A .kept) (omega arith) in
-              let small = more-exprs es (f .v) (t .exprs) (f .count - 4) n l (A .kept .size) c (snd .children) in
+              let small = more-exprs es (f .v) (t .exprs) (f .count - 4) n l (A .kept .size) c (snd .exprs) in
+              let fit = fit-expr (getD (f .v) 0 0) (getD (f .v) 1 0) (getD (f .v) 2 0) (getD (f .v) 3 0) (f .count - 4) (sym e ∙ y) in
               let z = no-aggs es ps t snd k in
               record {
                 taken =
@@ -342,10 +356,8 @@ module _ (s : List ℕ) (f : Numbers) (A : All-read s f) where
                     ∙ ap (λ (x : List Expr). done (record { exprs = x; steps = stored-steps ps (t .steps) }))
                     (sym (ap (λ x. stored-exprs x (t .exprs + 1)) p ∙ small ∙ ap (λ x. stored-exprs es (t .exprs) ++ (expr-of x ∷ [])) u));
                 sound = record {
-                  children = rw p (counts-small es (f .v) (t .exprs) (f .count - 4) n l (A .kept .size) c (snd .children));
-                  inputs = snd .inputs;
-                  firsts = snd .firsts;
-                  seconds = snd .seconds;
+                  exprs = rw p (exprs-formed es (f .v) (t .exprs) (f .count - 4) n l (A .kept .size) c (snd .exprs) (fit .0) (fit .1 .0) (fit .1 .1));
+                  steps = snd .steps;
                   aggs = snd .aggs;
                   few-exprs = omega arith;
                   few-steps = snd .few-steps;
@@ -415,17 +427,15 @@ module _ (s : List ℕ) (f : Numbers) (A : All-read s f) where
           P-taken ps′ n m c l p =
               let u : take (f .count) (f .v) ≡ A .list = ap (λ m. take m (f .v)) (A .count) ∙ kept-all (A .list) (f .v) (A .kept) (let z = A .count in let w = adds-up in omega arith) in
               let w : step-of (f .v) ≡ step-of (A .list) = sym (step-take (f .v) (f .count) (let w = adds-up in omega arith)) ∙ ap step-of u in
-              let more = ap (λ x. stored-steps x (t .steps + 1)) p ∙ more-steps ps (f .v) (t .steps) n l (A .kept .size) (c .0) (c .1 .0) (c .1 .1) (snd .inputs) (snd .firsts) (snd .seconds) ∙ ap (λ x. stored-steps ps (t .steps) ++ (x ∷ [])) w in
+              let more = ap (λ x. stored-steps x (t .steps + 1)) p ∙ more-steps ps (f .v) (t .steps) n l (A .kept .size) (c .0) (c .1 .0) (c .1 .1) (snd .steps) ∙ ap (λ x. stored-steps ps (t .steps) ++ (x ∷ [])) w in
               record {
                 taken =
                     ap (λ o. read-line o (sheet-of es ps t)) P-is
                     ∙ step-in (A .list) (sheet-of es ps t) (P-fits e ∙ y) (room-steps es ps t snd (step-of (A .list)) n (let z = entries-are in omega arith))
                     ∙ ap (λ (x : List Step). done (record { exprs = stored-exprs es (t .exprs); steps = x })) (sym more);
                 sound = record {
-                  children = snd .children;
-                  inputs = rw p (entries-small ps (f .v) (t .steps) n l (A .kept .size) (c .0) (c .1 .0) (c .1 .1) (snd .inputs) (snd .firsts) (snd .seconds) 4 (omega arith) (c .0) (snd .inputs));
-                  firsts = rw p (entries-small ps (f .v) (t .steps) n l (A .kept .size) (c .0) (c .1 .0) (c .1 .1) (snd .inputs) (snd .firsts) (snd .seconds) 5 (omega arith) (c .1 .0) (snd .firsts));
-                  seconds = rw p (entries-small ps (f .v) (t .steps) n l (A .kept .size) (c .0) (c .1 .0) (c .1 .1) (snd .inputs) (snd .firsts) (snd .seconds) 6 (omega arith) (c .1 .1) (snd .seconds));
+                  exprs = snd .exprs;
+                  steps = rw p (steps-formed ps (f .v) (t .steps) n l (A .kept .size) (c .0) (c .1 .0) (c .1 .1) (snd .steps) (fit-kind _ _ _ _ _ _ _ _ (sym e ∙ y) .0));
                   aggs = (let z = snd .aggs in let v = entries-are in let y = agg-more (stored-steps ps (t .steps)) (step-of (A .list)) in omega (arith, ap agg-entries more));
                   few-exprs = omega arith;
                   few-steps = omega arith;

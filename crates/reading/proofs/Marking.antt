@@ -1,34 +1,37 @@
 -- The marks are those of the definition.
 use mathlib.Core.Path.{_≡_, refl, sym, ap, _∙_, subst}
 use mathlib.Core.Logic.{_⊎_, inl, inr}
-use mathlib.Core.Bool.{Bool, true, false, _||_, not}
+use mathlib.Core.Bool.{Bool, true, false, _||_, not, _&&_}
 use mathlib.Core.List.{List, [], _∷_, _++_, append-nil}
 use Prim.Native.Nat.{ℕ, zero, suc, _+_, _*_, _-_, _<_, _≤_}
 use native.Mathlib.Numerals.{add-one}
 use native.Mathlib.Omega.{arith}
-use native.Mathlib.Decide.{ℕ-discrete}
-use lib.Dec.{eqb, leb}
+use native.Mathlib.Decide.{ℕ-discrete, decLe}
+use lib.Dec.{eqb, leb, ltb}
 use lib.ListN.{length, getD, take, drop}
 use lib.Seq.{take-nil, drop-drop}
-use borrow.Author.Tests.{leb-true, le-leb, lt-leb, eq-eqb, ne-eqb}
+use borrow.Author.Tests.{leb-true, le-leb, lt-leb, eq-eqb, ne-eqb, ltb-true}
 use Rattle.plan.specs.declared.aexpr.AExpr.{AExpr}
-use Rattle.plan.specs.Kinds.{same-aexpr}
-use Rattle.plan.specs.Lists.{all?, numbered, among, times, rest}
+use Rattle.plan.specs.Kinds.{same-aexpr, aexpr, aexpr-number}
+use Rattle.plan.specs.Lists.{all?, numbered, among, times, rest, if_then_else_}
 use Rattle.plan.specs.Sheet.{Expr, expr-at, no-expr}
 use Rattle.plan.specs.Faults.{children-earlier, evaluated, fields-right}
-use Rattle.plan.specs.Stored.{stored-expr, stored-exprs}
-use Rattle.reading.specs.Held.{children-of}
-use Rattle.reading.specs.Uses.{Counted}
+use Rattle.plan.specs.Stored.{stored-expr, stored-exprs, table}
+use Rattle.reading.specs.Held.{children-of, Exprs-held}
+use Rattle.reading.specs.Uses.{capped, Counted}
 use Rattle.reading.specs.Marks.{marked-by, markings, field-marked}
 use Rattle.reading.proofs.Stores.{table-length}
 use Rattle.reading.proofs.Scans.{children-are, kind-of, expr-kind-is, table-at}
 use Rattle.reading.proofs.Names.{at-least}
-use Rattle.reading.proofs.Members.{In, there, not-in-none, in-left, in-right, in-either, times-in, in-times, same-tests, all-numbered-same, earlier, held, evaluation, downward, only}
+use Rattle.reading.proofs.Members.{In, there, not-in-none, in-left, in-right, in-either, times-in, in-times, same-tests, all-numbered-same, earlier, held, evaluation, downward, only, here, in-rest}
 
 -- One line -------------------------------------------------------------------------------------------------------------------
 
 evaluates-is : (es : List ℕ) (i : ℕ) → same-aexpr (stored-expr es i .kind) AExpr.StructEval ≡ eqb (getD es (i * 16) 0) 15
 evaluates-is es i = ap (λ k. same-aexpr k AExpr.StructEval) (kind-of es i) ∙ expr-kind-is (getD es (i * 16) 0) 15 (omega arith) (omega arith)
+
+pub few-children : {es : List ℕ} {n : ℕ} → Exprs-held es n → (i : ℕ) → i < n → children-of es i ≤ 8
+few-children h i l = h .formed i l .count
 
 rest-taken : (m : ℕ) (l : List ℕ) → rest (take (suc m) l) ≡ take m (drop 1 l)
 rest-taken m [] = sym (take-nil m)

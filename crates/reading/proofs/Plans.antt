@@ -102,13 +102,13 @@ module _ (s : List ℕ) (h : length s ≤ 16384) where
 
 -- what sound bytes hold
 pub held-exprs : {es ps : List ℕ} {t : Tally} → Sound es ps t → Exprs-held es (t .exprs)
-held-exprs s = record { few = (let h = s .few-exprs in omega arith); children = s .children }
+held-exprs s = record { few = (let h = s .few-exprs in omega arith); formed = s .exprs }
 
 pub held-steps : {es ps : List ℕ} {t : Tally} → Sound es ps t → Steps-held ps (t .steps)
 held-steps s =
     record {
       few = s .few-steps;
-      each = λ i h. record { few = (let f = s .few-steps in omega arith); inputs = s .inputs i h; firsts = s .firsts i h; seconds = s .seconds i h };
+      each = λ i h. record { few = (let f = s .few-steps in omega arith); formed = s .steps i h };
     }
 
 pub refused-is : (s es ps : List ℕ) (r : Lines) (k : ℕ) → Lines-read s es ps r → r ≡ Lines.Refused k → read-lines (parts 10 s) no-lines ≡ refused k

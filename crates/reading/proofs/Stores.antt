@@ -6,12 +6,12 @@ use native.Mathlib.Numerals.{add-one}
 use native.Mathlib.Omega.{arith}
 use native.Mathlib.Nat.{suc-add}
 use native.Mathlib.Decide.{ℕ-discrete}
-use Rattle.plan.specs.Sheet.{expr-of, step-of}
-use Rattle.plan.specs.Stored.{stored-expr, stored-step, stored-exprs, stored-steps, table}
+use Rattle.plan.specs.Sheet.{Expr, Step, expr-of, step-of}
+use Rattle.plan.specs.Stored.{stored-expr, stored-step, stored-exprs, stored-steps, table, Expr-formed, Step-formed}
 use Rattle.reading.specs.Lines.{pasted}
 use Rattle.reading.specs.Held.{children-of, count-of}
-use lib.ListN.{length, getD, take, drop, set, length-set, length-drop, take-append-drop, List·getD-append}
-use lib.Seq.{paste-zero, paste-suc, length-paste, take-nil, take-append-le, drop-append-le, drop-at, take-take, drop-drop, getD-take, getD-drop, length-take-le, take-set-le, getD-set-same}
+use lib.ListN.{length, getD, take, drop, set, length-set, length-drop, length-append, length-take, take-append-drop, List·getD-append}
+use lib.Seq.{paste-zero, paste-suc, length-paste, take-nil, take-append-le, drop-append-le, drop-at, take-take, drop-drop, getD-take, getD-drop, length-take-le, take-set-le, getD-set-same, getD-set-other, ext-getD}
 
 -- The loop that writes them --------------------------------------------------------------------------------------------------
 
@@ -111,16 +111,23 @@ module _ (es v : List ℕ) (n count : ℕ) (h : n < 128) (el : length es ≡ 204
   new-expr =
       ap expr-of (ap (λ c. take (4 + c) (drop (n * 16) es′)) count-written ∙ written es (set v 12 count) (n * 16) 16 fits-here wide (4 + count) (omega arith) ∙ take-set-le (4 + count) v 12 count (omega arith))
 
-  module _ (small′ : (i : ℕ) → i < n → children-of es i ≤ 8) where
+  -- the numbers but the count
+  number-kept : (i : ℕ) → i < 12 → getD es′ (n * 16 + i) 0 ≡ getD v i 0
+  number-kept i l = byte-written es (set v 12 count) (n * 16) 16 fits-here wide i (omega arith) ∙ getD-set-other v 12 i count 0 (omega arith)
+
+  module _ (old : (i : ℕ) → i < n → Expr-formed es i) where
+    old-byte : (k : ℕ) → k < n * 16 → getD es′ k 0 ≡ getD es k 0
+    old-byte k l = byte-before es (set v 12 count) (n * 16) 16 fits-here wide k l
+
     old-count : (i : ℕ) → i < n → children-of es′ i ≡ children-of es i
-    old-count i l = byte-before es (set v 12 count) (n * 16) 16 fits-here wide (i * 16 + 12) (omega arith)
+    old-count i l = old-byte (i * 16 + 12) (omega arith)
 
     old-expr : (i : ℕ) → i < n → stored-expr es′ i ≡ stored-expr es i
     unfolding stored-expr
     old-expr i l =
         ap expr-of
         (ap (λ c. take (4 + c) (drop (i * 16) es′)) (old-count i l)
-        ∙ before es (set v 12 count) (n * 16) 16 fits-here wide (i * 16) (4 + children-of es i) (let s = small′ i l in omega arith))
+        ∙ before es (set v 12 count) (n * 16) 16 fits-here wide (i * 16) (4 + children-of es i) (let s = old i l .count in omega arith))
 
     pub more-exprs : stored-exprs es′ (n + 1) ≡ stored-exprs es n ++ (expr-of (take (4 + count) v) ∷ [])
     unfolding stored-exprs
@@ -130,12 +137,28 @@ module _ (es v : List ℕ) (n count : ℕ) (h : n < 128) (el : length es ≡ 204
         ∙ rw (table-same (stored-expr es′) (stored-expr es) 0 n (λ i l. old-expr i (omega arith)))
         (ap (λ e. table (stored-expr es) 0 n ++ (e ∷ [])) (ap (stored-expr es′) (omega arith) ∙ new-expr))
 
-    pub counts-small : (i : ℕ) → i < n + 1 → children-of es′ i ≤ 8
-    counts-small i l = by (ℕ-discrete i n)
+    pub exprs-formed : getD v 0 0 < 25 → getD v 1 0 ≤ 1 → getD v 2 0 ≤ 1 → (i : ℕ) → i < n + 1 → Expr-formed es′ i
+    exprs-formed k s p i l = by (ℕ-discrete i n)
       where
-        by : Dec (i ≡ n) → children-of es′ i ≤ 8
-        by (yes e) = rw (e, count-written) small
-        by (no e) = rw (old-count i (omega arith)) (small′ i (omega arith))
+        new : Expr-formed es′ n
+        new =
+            record {
+              kind = rw (ap (λ j. getD es′ j 0) (let e : n * 16 ≡ n * 16 + 0 = omega arith in e) ∙ number-kept 0 (omega arith)) k;
+              scalar = rw (number-kept 1 (omega arith)) s;
+              length-preserving = rw (number-kept 2 (omega arith)) p;
+              count = rw count-written small;
+            }
+
+        by : Dec (i ≡ n) → Expr-formed es′ i
+        by (yes e) = rw e new
+        by (no e) =
+            let f = old i (omega arith) in
+            record {
+              kind = rw (old-byte (i * 16) (omega arith)) (f .kind);
+              scalar = rw (old-byte (i * 16 + 1) (omega arith)) (f .scalar);
+              length-preserving = rw (old-byte (i * 16 + 2) (omega arith)) (f .length-preserving);
+              count = rw (old-count i (omega arith)) (f .count);
+            }
 
 -- A step's record depends only on its own numbers ----------------------------------------------------------------------------
 
@@ -193,16 +216,16 @@ module _ (ps v : List ℕ) (n : ℕ) (h : n < 32) (pl : length ps ≡ 1024) (vl 
       ∙ ap step-of (written ps v (n * 32) 32 room all-of 31 (omega arith))
       ∙ step-take v 31 (omega arith)
 
-  module _ (in8 : (i : ℕ) → i < n → count-of 4 ps i ≤ 8) (fst8 : (i : ℕ) → i < n → count-of 5 ps i ≤ 8) (snd8 : (i : ℕ) → i < n → count-of 6 ps i ≤ 8) where
+  module _ (old : (i : ℕ) → i < n → Step-formed ps i) where
     old-number : (k i : ℕ) → k < 32 → i < n → count-of k ps′ i ≡ count-of k ps i
     old-number k i l m = byte-before ps v (n * 32) 32 room all-of (i * 32 + k) (omega arith)
 
     old-step : (i : ℕ) → i < n → stored-step ps′ i ≡ stored-step ps i
     unfolding stored-step
     old-step i l =
-        let a = in8 i l in
-        let b = fst8 i l in
-        let c = snd8 i l in
+        let a = old i l .n1 in
+        let b = old i l .n2 in
+        let c = old i l .n3 in
         sym (step-take (drop (i * 32) ps′) 31 (omega (arith, at-stored ps′ i 4 ∙ old-number 4 i (omega arith) l, at-stored ps′ i 5 ∙ old-number 5 i (omega arith) l, at-stored ps′ i 6 ∙ old-number 6 i (omega arith) l)))
         ∙ ap step-of (before ps v (n * 32) 32 room all-of (i * 32) 31 (omega arith))
         ∙ step-take (drop (i * 32) ps) 31 (omega (arith, at-stored ps i 4, at-stored ps i 5, at-stored ps i 6))
@@ -215,9 +238,25 @@ module _ (ps v : List ℕ) (n : ℕ) (h : n < 32) (pl : length ps ≡ 1024) (vl 
         ∙ rw (table-same (stored-step ps′) (stored-step ps) 0 n (λ i l. old-step i (omega arith)))
         (ap (λ e. table (stored-step ps) 0 n ++ (e ∷ [])) (ap (stored-step ps′) (omega arith) ∙ new-step))
 
-    pub entries-small : (k : ℕ) → k < 32 → getD v k 0 ≤ 8 → ((i : ℕ) → i < n → count-of k ps i ≤ 8) → (i : ℕ) → i < n + 1 → count-of k ps′ i ≤ 8
-    entries-small k l s old i m = by (ℕ-discrete i n)
+    pub steps-formed : getD v 0 0 < 19 → (i : ℕ) → i < n + 1 → Step-formed ps′ i
+    steps-formed k i l = by (ℕ-discrete i n)
       where
-        by : Dec (i ≡ n) → count-of k ps′ i ≤ 8
-        by (yes e) = rw (e, number-written k l) s
-        by (no e) = rw (old-number k i l (omega arith)) (old i (omega arith))
+        new : Step-formed ps′ n
+        new =
+            record {
+              kind = rw (ap (λ j. getD ps′ j 0) (let e : n * 32 ≡ n * 32 + 0 = omega arith in e) ∙ number-written 0 (omega arith)) k;
+              n1 = rw (number-written 4 (omega arith)) small1;
+              n2 = rw (number-written 5 (omega arith)) small2;
+              n3 = rw (number-written 6 (omega arith)) small3;
+            }
+
+        by : Dec (i ≡ n) → Step-formed ps′ i
+        by (yes e) = rw e new
+        by (no e) =
+            let f = old i (omega arith) in
+            record {
+              kind = rw (byte-before ps v (n * 32) 32 room all-of (i * 32) (omega arith)) (f .kind);
+              n1 = rw (old-number 4 i (omega arith) (omega arith)) (f .n1);
+              n2 = rw (old-number 5 i (omega arith) (omega arith)) (f .n2);
+              n3 = rw (old-number 6 i (omega arith) (omega arith)) (f .n3);
+            }

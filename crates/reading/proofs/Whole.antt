@@ -198,10 +198,8 @@ begin s es ps =
     record {
       same-end = refl;
       sound = record {
-        children = λ i h. absurd (not-suc-le-zero h);
-        inputs = λ i h. absurd (not-suc-le-zero h);
-        firsts = λ i h. absurd (not-suc-le-zero h);
-        seconds = λ i h. absurd (not-suc-le-zero h);
+        exprs = λ i h. absurd (not-suc-le-zero h);
+        steps = λ i h. absurd (not-suc-le-zero h);
         aggs = refl;
         few-exprs = omega arith;
         few-steps = omega arith;

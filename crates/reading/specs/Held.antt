@@ -1,11 +1,11 @@
--- What holds of the bytes of stored lines: their counts fit.
+-- What holds of the bytes of stored lines: their numbers fit.
 use Prim.Native.Nat.{ℕ, _+_, _*_, _<_, _≤_}
 use mathlib.Core.List.{List, _++_}
 use mathlib.Core.Bool.{Bool, _&&_, not}
 use lib.Dec.{eqb, ltb}
 use lib.ListN.{getD}
 use Rattle.plan.specs.Sheet.{Step, Sheet}
-use Rattle.plan.specs.Stored.{stored-exprs, stored-steps}
+use Rattle.plan.specs.Stored.{stored-exprs, stored-steps, Expr-formed, Step-formed}
 
 -- the counts in the bytes of an E line and of a P line
 abbrev pub children-of : List ℕ → ℕ → ℕ
@@ -16,13 +16,11 @@ count-of k ps i = getD ps (i * 32 + k) 0
 
 pub record Exprs-held (es : List ℕ) (n : ℕ) : Type 0 where
   pub few : n ≤ 128
-  pub children : (i : ℕ) → i < n → children-of es i ≤ 8
+  pub formed : (i : ℕ) → i < n → Expr-formed es i
 
 pub record Step-held (ps : List ℕ) (i : ℕ) : Type 0 where
   pub few : i < 32
-  pub inputs : count-of 4 ps i ≤ 8
-  pub firsts : count-of 5 ps i ≤ 8
-  pub seconds : count-of 6 ps i ≤ 8
+  pub formed : Step-formed ps i
 
 pub record Steps-held (ps : List ℕ) (n : ℕ) : Type 0 where
   pub few : n ≤ 32

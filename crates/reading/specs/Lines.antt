@@ -1,19 +1,18 @@
 -- The lines as the code stores them.
 use mathlib.Core.Path.{_≡_}
-use Prim.Native.Nat.{ℕ, suc, _+_, _<_, _≤_}
+use Prim.Native.Nat.{ℕ, suc, _+_, _<_, _≤_, _*_}
 use mathlib.Core.Bool.{true}
-use mathlib.Core.List.{List}
+use mathlib.Core.List.{List, [], _∷_}
 use mathlib.Core.Option.{Option}
 use lib.Dec.{eqb}
-use lib.ListN.{length}
+use lib.ListN.{length, getD}
 use lib.Seq.{paste}
 use Rattle.plan.specs.declared.ir.IR.{IR}
 use Rattle.plan.specs.Kinds.{same-ir}
 use Rattle.plan.specs.Lists.{if_then_else_, sum}
-use Rattle.plan.specs.Sheet.{Sheet, Step, Line, refused, done, read-line, parts, read-lines, no-lines}
-use Rattle.plan.specs.Stored.{stored-exprs, stored-steps}
+use Rattle.plan.specs.Sheet.{Sheet, Step, Line, Outcome, refused, done, read-line, parts, read-lines, no-lines}
+use Rattle.plan.specs.Stored.{stored-exprs, stored-steps, Expr-formed, Step-formed}
 use Rattle.reading.specs.Line.{line, ended}
-use Rattle.reading.specs.Held.{children-of, count-of}
 use Rattle.reading.specs.declared.lines.Tally.{Tally}
 use Rattle.reading.specs.declared.lines.Reading.{Reading}
 use Rattle.reading.specs.declared.lines.Lines.{Lines}
@@ -36,10 +35,8 @@ aggs-of kind n3 = if eqb kind 7 then n3 else 0
 
 -- what holds of the bytes, whatever lines they hold
 pub record Sound (es ps : List ℕ) (t : Tally) : Type 0 where
-  pub children : (i : ℕ) → i < t .exprs → children-of es i ≤ 8
-  pub inputs : (i : ℕ) → i < t .steps → count-of 4 ps i ≤ 8
-  pub firsts : (i : ℕ) → i < t .steps → count-of 5 ps i ≤ 8
-  pub seconds : (i : ℕ) → i < t .steps → count-of 6 ps i ≤ 8
+  pub exprs : (i : ℕ) → i < t .exprs → Expr-formed es i
+  pub steps : (i : ℕ) → i < t .steps → Step-formed ps i
   pub aggs : t .aggs ≡ agg-entries (stored-steps ps (t .steps))
   pub few-exprs : t .exprs + t .aggs ≤ 128
   pub few-steps : t .steps ≤ 32

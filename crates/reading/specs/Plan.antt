@@ -29,7 +29,7 @@ abbrev pub Plan-is : Outcome Sheet → List ℕ → List ℕ → Plan → Type 0
 Plan-is (refused k) es ps r = r ≡ Refused k
 Plan-is (done sh) es ps r = Held-plan sh es ps r
 
--- small facts for callers: at most 128 E lines and 32 P lines, and counts of at most 8
+-- small facts for callers: at most 128 E lines and 32 P lines, whose numbers fit
 abbrev pub Plan-held : List ℕ → List ℕ → Plan → Type 0
 Plan-held es ps (Refused k) = Unit
 Plan-held es ps (Taken c) = Exprs-held es (c .exprs) × Steps-held ps (c .steps)

@@ -4,7 +4,7 @@ use mathlib.Core.List.{[]}
 use Prim.Native.Nat.{_-_, _≤_}
 use Rattle.reading.specs.Uses.{Counted}
 use Rattle.reading.specs.Marks.{markings}
-use Rattle.reading.proofs.Marking.{no-marks, more-marks}
+use Rattle.reading.proofs.Marking.{few-children, no-marks, more-marks}
 use Rattle.reading.proofs.fields.mark_lines.Statement.{statement}
 use Rattle.reading.proofs.fields.mark_lines.Tie as tie
 
@@ -24,7 +24,7 @@ sub-mark-line : tie.Need-sub-mark-line Inv-loop μ-loop
 sub-mark-line c = omega arith
 
 mark-line-requires : tie.Need-mark-line-requires Inv-loop μ-loop
-mark-line-requires c κs = (omega (arith, c .before .before .before .pre .few), c .before .before .before .pre .children _ (omega arith))
+mark-line-requires c κs = (omega (arith, c .before .before .before .pre .few), few-children (c .before .before .before .pre) _ (omega arith))
 
 loop-less : tie.Need-loop-less Inv-loop μ-loop
 loop-less c = omega arith

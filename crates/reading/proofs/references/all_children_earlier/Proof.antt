@@ -20,7 +20,7 @@ loop-holds : tie.Need-loop-holds Inv-loop μ-loop
 loop-holds c = (omega arith, exprs-first children-earlier (c .args .exprs .now) (c .args .n))
 
 children-earlier-requires : tie.Need-children-earlier-requires Inv-loop μ-loop
-children-earlier-requires c κs = (omega (arith, c .before .before .pre .few), c .before .before .pre .children _ (c .loop-test .taken))
+children-earlier-requires c κs = (omega (arith, c .before .before .pre .few), c .before .before .pre .formed _ (c .loop-test .taken) .count)
 
 returns : tie.Need-returns Inv-loop μ-loop
 returns c = line-fails children-earlier (stored-expr (c .before .before .before .before .args .exprs .now)) (c .before .before .before .before .args .n) _ (c .before .before .loop-test .taken) (sym (c .before .children-earlier .ensures) ∙ not-true _ (c .if1 .taken)) (c .before .before .before .loop .inv .1)
