@@ -21,6 +21,9 @@ CACHES = [
     "P,0,0,0,0,0,0,0\nP,18,7,0,0,1,0,0,0\n" + "P,2,0,0,0,1,0,0,1\n" * n for n in range(1, 9)
 ] + [
     "P,0,0,0,0,0,0,0\nP,18,1,0,0,1,0,0,0\nP,18,2,0,0,1,0,0,1\nP,11,0,0,0,8,0,0,1,2,1,2,1,2,1,2\n" + "P,2,0,0,0,1,0,0,2\n" * n + "P,2,0,0,0,1,0,0,3\n" for n in range(4)
+] + [
+    # near the most edges that there can be: 29 Unions in a chain, each with the Cache in its other seven inputs
+    "P,0,0,0,0,0,0,0\nP,18,7,0,0,1,0,0,0\n" + "".join(f"P,11,0,0,0,8,0,0,{n - 1}" + ",1" * 7 + "\n" for n in range(2, 31)) + "P,2,0,0,0,1,0,0,30\n"
 ]
 
 
