@@ -6,24 +6,21 @@ use mathlib.Core.Option.{Option, none, some}
 use Prim.Native.Nat.{ℕ, zero, suc, _+_, _*_, _-_, _<_, _≤_}
 use native.Mathlib.Numerals.{add-one}
 use native.Mathlib.Omega.{arith}
-use native.Mathlib.Nat.{not-suc-le-zero}
-use lib.Dec.{T, eqb, ltb, leb, eqb→eq, ltb→lt}
-use lib.ListN.{length, getD, take, drop, set, length-drop, length-append, length-take}
-use lib.Seq.{ext-getD, getD-take, length-take-le, drop-drop}
-use borrow.Author.Tests.{ltb-true, leb-true, eqb-true, lt-ltb, le-ltb, le-leb, lt-leb, eq-eqb, ne-eqb}
-use Rattle.plan.specs.declared.aexpr.AExpr.{AExpr}
+use lib.Dec.{eqb, ltb, leb}
+use lib.ListN.{length, getD, take, drop, set, length-drop, length-append}
+use lib.Seq.{ext-getD, getD-take, length-take-le}
+use borrow.Author.Tests.{ltb-true, leb-true, eqb-true, lt-ltb, le-ltb, le-leb, lt-leb}
 use Rattle.plan.specs.declared.ir.IR.{IR}
-use Rattle.plan.specs.Kinds.{aexpr-number, ir-number, same-ir, aexpr, same-aexpr, ir}
+use Rattle.plan.specs.Kinds.{aexpr-number, ir-number, same-ir}
 use Rattle.plan.specs.KindNumbers.{aexpr-there, ir-there}
 use Rattle.plan.specs.Lists.{if_then_else_, sum, empty?, same, yes?}
-use Rattle.plan.specs.Sheet.{Expr, Step, Sheet, E, P, refused, done, refuse_when_else_, numbers, lettered, expr-of, step-of, expr-fits, step-fits, in-expr-table, in-step-table, expr-count, over-limits, with-expr, with-step, read-line, Line, Outcome, parts, onto, line-of, expr-table, step-table}
+use Rattle.plan.specs.Sheet.{Expr, Step, Sheet, E, P, refused, done, refuse_when_else_, lettered, expr-of, step-of, expr-fits, step-fits, in-expr-table, in-step-table, expr-count, over-limits, with-expr, with-step, read-line}
 use Rattle.plan.specs.Stored.{stored-exprs, stored-steps, stored-expr, stored-step, table}
-use Rattle.reading.specs.Line.{line, ended, numbers-after, numbers-of, Kept, All-read, line-here}
-use Rattle.reading.specs.Tables.{row, expr-numbers-fit, step-numbers-fit, most-a, most-b, most-c, inputs, exprs, most-aggs, within, row-of}
-use Rattle.reading.specs.Lines.{pasted, sheet-of, agg-entries, aggs-of, Sound, Line-taken, Line-read}
+use Rattle.reading.specs.Line.{line, ended, numbers-after, numbers-of, Kept, All-read}
+use Rattle.reading.specs.Tables.{row, expr-numbers-fit, step-numbers-fit, most-a, most-b, most-c, inputs, exprs, most-aggs, within}
+use Rattle.reading.specs.Lines.{pasted, sheet-of, agg-entries, aggs-of, Sound, Line-taken}
 use Rattle.reading.specs.declared.line.Numbers.{Numbers}
 use Rattle.reading.specs.declared.lines.Tally.{Tally}
-use Rattle.reading.proofs.Spans.{and-left, and-right}
 use Rattle.reading.proofs.Stores.{table-length, step-take, more-exprs, exprs-formed, more-steps, steps-formed}
 
 -- The tables by a line's numbers ---------------------------------------------------------------------------------------------

@@ -6,24 +6,24 @@ use mathlib.Core.List.{List, [], _∷_, _++_, append-nil}
 use Prim.Native.Nat.{ℕ, zero, suc, _+_, _*_, _-_, _<_, _≤_}
 use native.Mathlib.Numerals.{add-one}
 use native.Mathlib.Omega.{arith}
-use native.Mathlib.Decide.{ℕ-discrete, decLe}
-use lib.Dec.{eqb, leb, ltb}
+use native.Mathlib.Decide.{ℕ-discrete}
+use lib.Dec.{eqb, leb}
 use lib.ListN.{length, getD, take, drop}
 use lib.Seq.{take-nil, drop-drop}
-use borrow.Author.Tests.{leb-true, le-leb, lt-leb, eq-eqb, ne-eqb, ltb-true}
+use borrow.Author.Tests.{leb-true, le-leb, lt-leb, eq-eqb, ne-eqb}
 use Rattle.plan.specs.declared.aexpr.AExpr.{AExpr}
-use Rattle.plan.specs.Kinds.{same-aexpr, aexpr, aexpr-number}
+use Rattle.plan.specs.Kinds.{same-aexpr}
 use Rattle.plan.specs.Lists.{all?, numbered, among, times, rest, if_then_else_}
 use Rattle.plan.specs.Sheet.{Expr, expr-at, no-expr}
 use Rattle.plan.specs.Faults.{children-earlier, evaluated, fields-right}
-use Rattle.plan.specs.Stored.{stored-expr, stored-exprs, table}
+use Rattle.plan.specs.Stored.{stored-expr, stored-exprs}
 use Rattle.reading.specs.Held.{children-of, Exprs-held}
-use Rattle.reading.specs.Uses.{capped, Counted}
+use Rattle.reading.specs.Uses.{Counted}
 use Rattle.reading.specs.Marks.{marked-by, markings, field-marked}
 use Rattle.reading.proofs.Stores.{table-length}
 use Rattle.reading.proofs.Scans.{children-are, kind-of, expr-kind-is, table-at}
 use Rattle.reading.proofs.Names.{at-least}
-use Rattle.reading.proofs.Members.{In, there, not-in-none, in-left, in-right, in-either, times-in, in-times, same-tests, all-numbered-same, earlier, held, evaluation, downward, only, here, in-rest}
+use Rattle.reading.proofs.Members.{In, there, not-in-none, in-left, in-right, in-either, times-in, in-times, same-tests, all-numbered-same, earlier, held, evaluation, downward, only, here}
 
 -- One line -------------------------------------------------------------------------------------------------------------------
 

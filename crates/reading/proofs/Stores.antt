@@ -6,12 +6,12 @@ use native.Mathlib.Numerals.{add-one}
 use native.Mathlib.Omega.{arith}
 use native.Mathlib.Nat.{suc-add}
 use native.Mathlib.Decide.{ℕ-discrete}
-use Rattle.plan.specs.Sheet.{Expr, Step, expr-of, step-of}
+use Rattle.plan.specs.Sheet.{expr-of, step-of}
 use Rattle.plan.specs.Stored.{stored-expr, stored-step, stored-exprs, stored-steps, table, Expr-formed, Step-formed}
 use Rattle.reading.specs.Lines.{pasted}
 use Rattle.reading.specs.Held.{children-of, count-of}
-use lib.ListN.{length, getD, take, drop, set, length-set, length-drop, length-append, length-take, take-append-drop, List·getD-append}
-use lib.Seq.{paste-zero, paste-suc, length-paste, take-nil, take-append-le, drop-append-le, drop-at, take-take, drop-drop, getD-take, getD-drop, length-take-le, take-set-le, getD-set-same, getD-set-other, ext-getD}
+use lib.ListN.{length, getD, take, drop, set, length-set, length-drop, take-append-drop, List·getD-append}
+use lib.Seq.{paste-zero, paste-suc, length-paste, take-nil, take-append-le, drop-append-le, drop-at, take-take, drop-drop, getD-take, getD-drop, length-take-le, take-set-le, getD-set-same, getD-set-other}
 
 -- The loop that writes them --------------------------------------------------------------------------------------------------
 
