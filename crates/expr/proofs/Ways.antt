@@ -30,7 +30,7 @@ use Rattle.expr.specs.Cache.{unpacked, cache-of}
 use Rattle.expr.specs.Record.{record-of, held, IsHeld}
 use Rattle.expr.specs.State.{eos-of, Falls, Based, Formed, Kept, Readable, sorts, preserves, is-replaced-line}
 use Rattle.expr.specs.Tables.{before-of, after-of, answers}
-use Rattle.expr.specs.Contract.{looked-of, LookAsks, LookGives, Ended, Answers, along-from, Begun, AlongAsks, IsWalk, AlongGives}
+use Rattle.expr.specs.Contract.{looked-of, LookAsks, LookGives, ended-by, Ended, AgainAsks, AgainGives, Answers, along-from, Begun, AlongAsks, IsWalk, AlongGives}
 use Rattle.expr.proofs.Records.{no, children-length, stored}
 use Rattle.expr.proofs.States.{kept-trans, formed-kept, counted, answering, copied, kept-counted, kept-answering, kept-copied, eos-cache, eos-field, eos-looks, eos-counted, eos-answering, eos-at, eos-copied}
 use Rattle.expr.proofs.Laws.{finish, after-answers, finish-again, finish-done, look-hit, look-copied, look-rest, up-from, up-finish, up-look, up-count}
@@ -213,9 +213,12 @@ module _ (recs : List ℕ) (n : ℕ) (s : Eos) (p : ℕ) (allow : Bool) (r : Loo
       asked-none = asked-is ∙ lacking (b .checks) (eqb entry 0) miss
 
       -- the first child's record takes the place of e
-      module _ (gone : is-replaced-line recs (s .line) E allow ≡ true) (c : ℕ) (c-is : c ≡ getD (E .children) 0 0) where
-        is-sorting : (t a x : Bool) (k : AExpr) → (t && (same-aexpr k AExpr.Sort || (same-aexpr k AExpr.SortBy && a))) ≡ true → sorts k ≡ true
-        is-sorting t a x k h = go (same-aexpr k AExpr.Sort) (same-aexpr k AExpr.SortBy) (and-right t _ h)
+      module _ (x : Bool) (x-is : x ≡ is-replaced-line recs (s .line) E allow) (taken : x ≡ true) (c : ℕ) (c-is : c ≡ getD (E .children) 0 0) where
+        gone : is-replaced-line recs (s .line) E allow ≡ true
+        gone = sym x-is ∙ taken
+
+        is-sorting : (t a : Bool) (k : AExpr) → (t && (same-aexpr k AExpr.Sort || (same-aexpr k AExpr.SortBy && a))) ≡ true → sorts k ≡ true
+        is-sorting t a k h = go (same-aexpr k AExpr.Sort) (same-aexpr k AExpr.SortBy) (and-right t _ h)
           where
             go : (y z : Bool) → (y || (z && a)) ≡ true → (y || z) ≡ true
             go true z h = refl
@@ -225,7 +228,7 @@ module _ (recs : List ℕ) (n : ℕ) (s : Eos) (p : ℕ) (allow : Bool) (r : Loo
         some-child : 0 < length (E .children)
         some-child =
             rw children-is
-            (r .based .sorted l l-below (rw (← kind-is) (is-sorting allow (all? (preserves recs (s .line)) (E .children)) true (E .kind) gone)))
+            (r .based .sorted l l-below (rw (← kind-is) (is-sorting allow (all? (preserves recs (s .line)) (E .children)) (E .kind) gone)))
 
         c-falls : c < l
         c-falls = rw c-is (e-falls .child 0 some-child)
@@ -284,7 +287,10 @@ module _ (recs : List ℕ) (n : ℕ) (s : Eos) (p : ℕ) (allow : Bool) (r : Loo
             copy-is (suc f) h = g .is f (omega (arith, copy-falls, h)) ∙ sym (look-is f)
 
       -- the record stays
-      module _ (stays : is-replaced-line recs (s .line) E allow ≡ false) where
+      module _ (x : Bool) (x-is : x ≡ is-replaced-line recs (s .line) E allow) (left : x ≡ false) where
+        stays : is-replaced-line recs (s .line) E allow ≡ false
+        stays = sym x-is ∙ left
+
         abbrev D : ℕ → Answers
         D f = along-from (look f) E (before-of b) 0 [] no-orders (eos-of recs n (counted s))
 
@@ -390,8 +396,8 @@ module _ (recs : List ℕ) (n : ℕ) (s : Eos) (p : ℕ) (allow : Bool) (r : Loo
             unfolding look-ended
             ended-looks f h = ap (λ (x : ObservableOrders × plan.Eos). x .1 .looks) (look-twice f h)
 
-            pub again-asks : LookAsks recs n (w .state) node true
-            again-asks = go (r .fuel) (r .enough) (r .fits)
+            again-look : LookAsks recs n (w .state) node true
+            again-look = go (r .fuel) (r .enough) (r .fits)
               where
                 go : (f : ℕ) → l < f → look f allow p S .1 .looks < 2 ^ 64 → LookAsks recs n (w .state) node true
                 go zero h k = absurd (omega arith)
@@ -405,18 +411,17 @@ module _ (recs : List ℕ) (n : ℕ) (s : Eos) (p : ℕ) (allow : Bool) (r : Loo
                       fits = rw (ended-looks f (omega (arith, h))) at k;
                     }
 
-            module _ (u t : Eos) (o : ObservableOrders) (m : LookGives recs n (w .state) node true u) (o-is : o ≡ after-of v .answer (u .answer))
-                (t-is : Ended u p E (after-of v) o (s .field) (w .seen .first) t) where
-              again-is : (f : ℕ) → l < f → looked-of recs n t ≡ look f allow p S
-              again-is zero h = absurd (omega arith)
-              again-is (suc f) h =
-                  let k : l ≤ f = omega (arith, h) in
-                  t-is .is recs n (D f .0) (r .within) (walk-is f k .sees .first)
-                  ∙ rw o-is (rw (← m .is f (omega (arith, again-falls, k))) (refl))
-                  ∙ sym (look-twice f k)
+            pub again-asks : AgainAsks recs n (w .state) node p
+            again-asks = record { look = again-look; within = r .within }
 
-              pub gives-again : LookGives recs n s p allow t
-              gives-again = record { is = again-is; kept = kept-trans walk-kept (kept-trans (m .kept) (t-is .kept)) }
+            pub gives-again : (t : Eos) → AgainGives recs n (w .state) node p E (after-of v) (s .field) (w .seen .first) t → LookGives recs n s p allow t
+            gives-again t m = record { is = again-is; kept = kept-trans walk-kept (m .kept) }
+              where
+                again-is : (f : ℕ) → l < f → looked-of recs n t ≡ look f allow p S
+                again-is zero h = absurd (omega arith)
+                again-is (suc f) h =
+                    let k : l ≤ f = omega (arith, h) in
+                    m .is f (omega (arith, again-falls, k)) (D f .0) (walk-is f k .sees .first) ∙ sym (look-twice f k)
 
           -- no second look
           module _ (once : v .again ≡ false) (t : Eos) (o : ObservableOrders) (o-is : o ≡ after-of v .answer (w .seen .acc .acc))
@@ -430,3 +435,13 @@ module _ (recs : List ℕ) (n : ℕ) (s : Eos) (p : ℕ) (allow : Bool) (r : Loo
 
             pub gives-done : LookGives recs n s p allow t
             gives-done = record { is = done-is; kept = kept-trans walk-kept (t-is .kept) }
+
+-- The second look, and the end of the look at p ----------------------------------------------------------------------------------
+
+pub gives-twice : (recs : List ℕ) (n : ℕ) (s : Eos) (node p : ℕ) → AgainAsks recs n s node p → (e : Expr) (v : plan.After) (field first : ObservableOrders) (u t : Eos) (o : ObservableOrders)
+    → LookGives recs n s node true u → o ≡ v .answer (u .answer) → Ended u p e v o field first t → AgainGives recs n s node p e v field first t
+gives-twice recs n s node p r e v field first u t o m o-is t-is =
+    record {
+      is = λ f h os q. t-is .is recs n os (r .within) q ∙ rw o-is (ap (λ (x : ObservableOrders × plan.Eos). ended-by x p e v field os) (m .is f h));
+      kept = kept-trans (m .kept) (t-is .kept);
+    }

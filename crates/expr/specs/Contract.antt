@@ -37,10 +37,24 @@ pub record LookGives (recs : List ℕ) (n : ℕ) (s : Eos) (p : ℕ) (allow : Bo
   pub is : (f : ℕ) → getD (s .line) p 0 < f → looked-of recs n r ≡ look f allow p (eos-of recs n s)
   pub kept : Kept s r
 
+-- the answer and the state after the end of a look at p, from the second look's
+abbrev pub ended-by : ObservableOrders × plan.Eos → ℕ → Expr → plan.After → ObservableOrders → List ObservableOrders → ObservableOrders × plan.Eos
+ended-by r p e v field os = (v .answer (r .0), look-ended p e v (v .answer (r .0)) field os (r .1))
+
 -- the end of a look at p, whose record was e, for every base and every list of answers that begins with the first one
 pub record Ended (s : Eos) (p : ℕ) (e : Expr) (v : plan.After) (o field first : ObservableOrders) (r : Eos) : Type 0 where
   pub is : (recs : List ℕ) (n : ℕ) (os : List ObservableOrders) → p < n → getD os 0 ∅ ≡ first
       → looked-of recs n r ≡ (o, look-ended p e v o field os (eos-of recs n s))
+  pub kept : Kept s r
+
+-- a second look, at the node, and the end of the look at p
+pub record AgainAsks (recs : List ℕ) (n : ℕ) (s : Eos) (node p : ℕ) : Type 0 where
+  pub look : LookAsks recs n s node true
+  pub within : p < n
+
+pub record AgainGives (recs : List ℕ) (n : ℕ) (s : Eos) (node p : ℕ) (e : Expr) (v : plan.After) (field first : ObservableOrders) (r : Eos) : Type 0 where
+  pub is : (f : ℕ) → getD (s .line) node 0 < f → (os : List ObservableOrders) → getD os 0 ∅ ≡ first
+      → looked-of recs n r ≡ ended-by (look f true node (eos-of recs n s)) p e v field os
   pub kept : Kept s r
 
 -- The look along the children from the i-th on -----------------------------------------------------------------------------------

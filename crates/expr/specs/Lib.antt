@@ -3,5 +3,6 @@ pub mod Acc
 pub mod Record
 pub mod Tables
 pub mod State
+pub mod StateLaws
 pub mod Contract
 pub mod Projected

@@ -12,7 +12,7 @@ ghost use Rattle.plan.specs.declared.aexpr.AExpr.{AExpr};
 ghost use Rattle.expr.specs.Tables.{after-of};
 ghost use Rattle.expr.specs.Record.{record-of, Shaped};
 ghost use Rattle.expr.specs.State.{Sized, preserves, is-replaced-line, Readable};
-ghost use Rattle.expr.specs.Contract.{Ended, LookAsks, LookGives, AlongAsks, AlongGives};
+ghost use Rattle.expr.specs.Contract.{Ended, LookAsks, LookGives, AgainAsks, AgainGives, AlongAsks, AlongGives};
 use crate::after::After;
 use crate::after::answer;
 use crate::before::Before;
@@ -189,10 +189,30 @@ pub fn look(recs: &[u8; 2048], n: usize, s: Eos, p: usize, allow: bool) -> Eos
     let acc = seen.acc;
     let v = After::of(e, allow, field, seen);
     if v.again {
-        let u = look(recs, n, w.state, acc.last_ordered_node as usize, true);
-        return look_ended(u, p, e, v, answer(v, u.answer), field, seen.first);
+        let node = acc.last_ordered_node as usize;
+        return look_again(recs, n, w.state, node, p, e, v, field, seen.first);
     }
     look_ended(w.state, p, e, v, answer(v, acc.acc), field, seen.first)
+}
+
+// The single ordered child once more, and the end of the look at p. A function of its own, so that its state takes no room
+// on the stack while looks go along children.
+fn look_again(
+    recs: &[u8; 2048],
+    n: usize,
+    s: Eos,
+    node: usize,
+    p: usize,
+    e: ExprRecord,
+    v: After,
+    field: ObservableOrders,
+    first: ObservableOrders,
+) -> Eos
+    requires { ⌜ AgainAsks (now recs) n s node p ⌝ }
+    ensures { λ r. ⌜ AgainGives (now (recs .entry)) n s node p (record-of e) (after-of v) field first r ⌝ }
+{
+    let u = look(recs, n, s, node, true);
+    look_ended(u, p, e, v, answer(v, u.answer), field, first)
 }
 
 // A look along the children of e from the i-th on; each is below l.

@@ -1,17 +1,12 @@
 use Rattle.expr.proofs.after.ternary_output.Statement.{statement}
 use Rattle.expr.proofs.after.ternary_output.Tie as tie
-use Rattle.expr.proofs.after.ternary_output.Reads as reads
-use Rattle.expr.proofs.after.ternary_output.Lts as lts
 
--- src/after.rt:71:1
 returns : tie.Need-returns
 returns c = rw (c .if2 .taken, c .before .if1 .taken)
 
--- src/after.rt:71:1
 returns-2 : tie.Need-returns-2
 returns-2 c = rw (c .if2 .left, c .before .if1 .taken)
 
--- src/after.rt:71:1
 returns-3 : tie.Need-returns-3
 returns-3 c = rw (c .if1 .left)
 

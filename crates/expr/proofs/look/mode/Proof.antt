@@ -1,14 +1,10 @@
 use borrow.Author.Tests.{eq-eqb, ne-eqb}
 use Rattle.expr.proofs.look.mode.Statement.{statement}
 use Rattle.expr.proofs.look.mode.Tie as tie
-use Rattle.expr.proofs.look.mode.Reads as reads
-use Rattle.expr.proofs.look.mode.Lts as lts
 
--- src/look.rt:118:1
 returns : tie.Need-returns
 returns c = rw (eq-eqb _ _ (c .if1 .taken))
 
--- src/look.rt:118:1
 returns-2 : tie.Need-returns-2
 returns-2 c = rw (ne-eqb _ _ (c .if1 .left))
 

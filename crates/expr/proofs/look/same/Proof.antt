@@ -1,19 +1,13 @@
 use borrow.Author.Needs.{needs}
 use Rattle.expr.proofs.look.same.Statement.{statement}
 use Rattle.expr.proofs.look.same.Tie as tie
-use Rattle.expr.proofs.look.same.Reads as reads
-use Rattle.expr.proofs.look.same.Lts as lts
-use Rattle.plan.proofs.aexpr.AExpr.number.Reads as number-reads
 
--- src/look.rt:61:5
 number-requires : tie.Need-number-requires
 number-requires c κs = search needs
 
--- src/look.rt:61:19
 number-requires-2 : tie.Need-number-requires-2
 number-requires-2 c κs = search needs
 
--- src/look.rt:58:1
 returns : tie.Need-returns
 returns c = rw (c .number2 .ensures, c .before .number .ensures)
 

@@ -1,10 +1,7 @@
 use Rattle.expr.proofs.Projections.{started}
 use Rattle.expr.proofs.projected.expr_order_simplifier.Statement.{statement}
 use Rattle.expr.proofs.projected.expr_order_simplifier.Tie as tie
-use Rattle.expr.proofs.projected.expr_order_simplifier.Reads as reads
-use Rattle.expr.proofs.projected.expr_order_simplifier.Lts as lts
 
--- src/projected.rt:21:1
 returns : tie.Need-returns
 returns c = started (c .args .line) (c .args .off) (c .args .tally)
 

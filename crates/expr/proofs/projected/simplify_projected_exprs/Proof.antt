@@ -3,56 +3,37 @@ use Rattle.expr.proofs.Projections.{gives-none, list-asks, top-asks, gi
 use borrow.Author.Needs.{needs}
 use Rattle.expr.proofs.projected.simplify_projected_exprs.Statement.{statement}
 use Rattle.expr.proofs.projected.simplify_projected_exprs.Tie as tie
-use Rattle.expr.proofs.projected.simplify_projected_exprs.Reads as reads
-use Rattle.expr.proofs.projected.simplify_projected_exprs.Lts as lts
-use Rattle.expr.proofs.look.look.Reads as look-reads
-use Rattle.expr.proofs.look.look_along.Reads as look-along-reads
-use Rattle.expr.proofs.order_acc.Seen.new.Reads as new-reads
-use Rattle.expr.proofs.order_acc.pick.Reads as pick-reads
-use Rattle.expr.proofs.projected.list_of.Reads as list-of-reads
-use Rattle.plan.proofs.orders.ObservableOrders.union.Reads as union-reads
 
--- src/projected.rt:64:9
 returns : tie.Need-returns
 returns c = gives-none _ _ _ _ _ _ (c .before .pre) (c .if1 .taken)
 
--- src/projected.rt:66:9
 list-of-requires : tie.Need-list-of-requires
 list-of-requires c κs = search needs
 
--- src/projected.rt:73:42
 cast-look-along : tie.Need-cast-look-along
 cast-look-along c = search needs
 
--- src/projected.rt:73:51
 new-requires : tie.Need-new-requires
 new-requires c κs = search needs
 
--- src/projected.rt:73:9
 look-along-requires : tie.Need-look-along-requires
 look-along-requires c κs = rw (c .before .list-of .ensures, c .new .ensures) (list-asks _ _ _ _ _ _ (c .before .before .before .pre) (omega (arith, c .before .before .if1 .left)))
 
--- src/projected.rt:78:33
 pick-requires : tie.Need-pick-requires
 pick-requires c κs = search needs
 
--- src/projected.rt:78:9
 union-requires : tie.Need-union-requires
 union-requires c κs = search needs
 
--- src/projected.rt:81:33
 cast-look : tie.Need-cast-look
 cast-look c = search needs
 
--- src/projected.rt:81:9
 look-requires : tie.Need-look-requires
 look-requires c κs = top-asks _ _ _ _ _ _ (c .before .before .before .before .before .before .before .before .before .before .before .before .before .pre) (omega (arith, c .before .before .before .before .before .before .before .before .before .before .before .before .if1 .left)) _ (rw (c .before .before .before .before .before .before .before .before .before .before .before .list-of .ensures, c .before .before .before .before .before .before .before .before .before .before .new .ensures) at (c .before .before .before .before .before .before .before .before .before .look-along .ensures)) _ _ (c .before .before .before .before .pick .ensures) (c .before .before .before .union .ensures) (c .before .if2 .taken)
 
--- src/projected.rt:81:9
 returns-2 : tie.Need-returns-2
 returns-2 c = gives-top _ _ _ _ _ _ (c .before .before .before .before .before .before .before .before .before .before .before .before .before .before .pre) (omega (arith, c .before .before .before .before .before .before .before .before .before .before .before .before .before .if1 .left)) _ (rw (c .before .before .before .before .before .before .before .before .before .before .before .before .list-of .ensures, c .before .before .before .before .before .before .before .before .before .before .before .new .ensures) at (c .before .before .before .before .before .before .before .before .before .before .look-along .ensures)) _ _ (c .before .before .before .before .before .pick .ensures) (c .before .before .before .before .union .ensures) (c .before .before .if2 .taken) _ (c .look .ensures)
 
--- src/projected.rt:49:1
 returns-3 : tie.Need-returns-3
 returns-3 c = gives-all _ _ _ _ _ _ (c .before .before .before .before .before .before .before .before .before .before .before .before .before .pre) (omega (arith, c .before .before .before .before .before .before .before .before .before .before .before .before .if1 .left)) _ (rw (c .before .before .before .before .before .before .before .before .before .before .before .list-of .ensures, c .before .before .before .before .before .before .before .before .before .before .new .ensures) at (c .before .before .before .before .before .before .before .before .before .look-along .ensures)) _ _ (c .before .before .before .before .pick .ensures) (c .before .before .before .union .ensures) (c .before .if2 .left)
 

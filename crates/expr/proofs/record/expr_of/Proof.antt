@@ -2,124 +2,91 @@ use Rattle.expr.proofs.Records.{is-held}
 use borrow.Author.Needs.{needs}
 use Rattle.expr.proofs.record.expr_of.Statement.{statement}
 use Rattle.expr.proofs.record.expr_of.Tie as tie
-use Rattle.expr.proofs.record.expr_of.Reads as reads
-use Rattle.expr.proofs.record.expr_of.Lts as lts
-use Rattle.expr.proofs.record.unless.Reads as unless-reads
-use Rattle.plan.proofs.aexpr.AExpr.of_number.Reads as of-number-reads
 
--- src/record.rt:24:13
 mul-b : tie.Need-mul-b
 mul-b c = search needs
 
--- src/record.rt:25:35
 add-unless : tie.Need-add-unless
 add-unless c = search needs
 
--- src/record.rt:25:30
 element-copy-out-unless : tie.Need-element-copy-out-unless
 element-copy-out-unless c = search needs
 
--- src/record.rt:25:9
 unless-requires : tie.Need-unless-requires
 unless-requires c κs = search needs
 
--- src/record.rt:27:32
 element-copy-out-of-number : tie.Need-element-copy-out-of-number
 element-copy-out-of-number c = search needs
 
--- src/record.rt:27:15
 of-number-requires : tie.Need-of-number-requires
 of-number-requires c κs = search needs
 
--- src/record.rt:28:22
 add-t6 : tie.Need-add-t6
 add-t6 c = search needs
 
--- src/record.rt:28:17
 element-copy-out-t15 : tie.Need-element-copy-out-t15
 element-copy-out-t15 c = search needs
 
--- src/record.rt:29:33
 add-t17 : tie.Need-add-t17
 add-t17 c = search needs
 
--- src/record.rt:29:28
 element-copy-out-t20 : tie.Need-element-copy-out-t20
 element-copy-out-t20 c = search needs
 
--- src/record.rt:31:21
 add-t22 : tie.Need-add-t22
 add-t22 c = search needs
 
--- src/record.rt:31:16
 element-copy-out-t25 : tie.Need-element-copy-out-t25
 element-copy-out-t25 c = search needs
 
--- src/record.rt:33:18
 add-t26 : tie.Need-add-t26
 add-t26 c = search needs
 
--- src/record.rt:33:13
 element-copy-out-t29 : tie.Need-element-copy-out-t29
 element-copy-out-t29 c = search needs
 
--- src/record.rt:34:18
 add-t30 : tie.Need-add-t30
 add-t30 c = search needs
 
--- src/record.rt:34:13
 element-copy-out-t33 : tie.Need-element-copy-out-t33
 element-copy-out-t33 c = search needs
 
--- src/record.rt:35:18
 add-t34 : tie.Need-add-t34
 add-t34 c = search needs
 
--- src/record.rt:35:13
 element-copy-out-t37 : tie.Need-element-copy-out-t37
 element-copy-out-t37 c = search needs
 
--- src/record.rt:36:18
 add-t38 : tie.Need-add-t38
 add-t38 c = search needs
 
--- src/record.rt:36:13
 element-copy-out-t41 : tie.Need-element-copy-out-t41
 element-copy-out-t41 c = search needs
 
--- src/record.rt:37:18
 add-t42 : tie.Need-add-t42
 add-t42 c = search needs
 
--- src/record.rt:37:13
 element-copy-out-t45 : tie.Need-element-copy-out-t45
 element-copy-out-t45 c = search needs
 
--- src/record.rt:38:18
 add-t46 : tie.Need-add-t46
 add-t46 c = search needs
 
--- src/record.rt:38:13
 element-copy-out-t49 : tie.Need-element-copy-out-t49
 element-copy-out-t49 c = search needs
 
--- src/record.rt:39:18
 add-t50 : tie.Need-add-t50
 add-t50 c = search needs
 
--- src/record.rt:39:13
 element-copy-out-t53 : tie.Need-element-copy-out-t53
 element-copy-out-t53 c = search needs
 
--- src/record.rt:40:18
 add-t54 : tie.Need-add-t54
 add-t54 c = search needs
 
--- src/record.rt:40:13
 element-copy-out-t57 : tie.Need-element-copy-out-t57
 element-copy-out-t57 c = search needs
 
--- src/record.rt:20:1
 returns : tie.Need-returns
 returns c =
     let s0 = c .before .before .before .before .before .before .before .before .before .before .before .before .before .before .before in

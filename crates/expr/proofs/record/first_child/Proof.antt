@@ -4,18 +4,13 @@ use lib.Seq.{getD-take}
 use borrow.Author.Needs.{needs}
 use Rattle.expr.proofs.record.first_child.Statement.{statement}
 use Rattle.expr.proofs.record.first_child.Tie as tie
-use Rattle.expr.proofs.record.first_child.Reads as reads
-use Rattle.expr.proofs.record.first_child.Lts as lts
 
--- src/record.rt:76:34
 element-copy-out-result : tie.Need-element-copy-out-result
 element-copy-out-result c = search needs
 
--- src/record.rt:73:1
 returns : tie.Need-returns
 returns c = search needs
 
--- src/record.rt:73:1
 returns-2 : tie.Need-returns-2
 returns-2 c = let e = c .before .before .args .t1 in sym (getD-take (e .count) (e .children) 0 0 (omega arith))
 
