@@ -1,20 +1,20 @@
 -- One child more of a look along the children; its end; a record without children; and what a record reads of the answers.
-use mathlib.Core.Path.{_≡_, refl, sym, ap, _∙_}
+use mathlib.Core.Path.{_≡_, refl, _∙_}
 use Prim.Native.Nat.{ℕ, zero, suc, _+_, _<_, _≤_}
 use native.Mathlib.Omega.{arith}
 use native.Mathlib.Nat.{not-suc-le-zero}
 use mathlib.Core.Bool.{Bool, true, false, _&&_}
 use mathlib.Core.List.{List, [], _∷_, _++_}
 use lib.Dec.{eqb}
-use lib.ListN.{length, getD, take, drop, length-append, drop-of-length-le, List·getD-append}
+use lib.ListN.{length, getD, drop, length-append, drop-of-length-le, List·getD-append}
 use lib.Seq.{drop-cons, getD-append-seam}
-use borrow.Author.Tests.{eqb-true, eqb-false, eq-eqb, ne-eqb}
+use borrow.Author.Tests.{eqb-true, eqb-false, ne-eqb}
 use Rattle.plan.specs.declared.aexpr.AExpr.{AExpr}
 use Rattle.plan.specs.declared.orders.ObservableOrders.{ObservableOrders}
 use Rattle.plan.specs.Kinds.{same-aexpr}
 use Rattle.plan.specs.Lists.{if_then_else_, first-last}
 use Rattle.plan.specs.Sheet.{Expr}
-use Rattle.plan.specs.Orders.{∅, ExprOrderAcc, no-orders, add}
+use Rattle.plan.specs.Orders.{ExprOrderAcc, no-orders, add}
 use Rattle.plan.specs.Look.{Eos, with-field, Before, in-order, After, after, enter-struct, Look, look-along, look-along-children, look-ended}
 use Rattle.expr.specs.declared.order_acc.Seen.{Seen}
 use Rattle.expr.specs.declared.record.ExprRecord.{ExprRecord}

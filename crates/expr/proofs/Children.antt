@@ -1,9 +1,9 @@
 -- What the code's look along the children asks and gives, a law for each way through it.
-use mathlib.Core.Path.{_≡_, refl, sym, ap, _∙_}
-use Prim.Native.Nat.{ℕ, zero, suc, _+_, _*_, _<_, _≤_, _^_}
-use native.Mathlib.Nat.{le-refl, le-trans, le-of-lt, lt-of-le-of-lt, lt-of-lt-of-le}
+use mathlib.Core.Path.{_≡_, refl, sym, _∙_}
+use Prim.Native.Nat.{ℕ, _+_, _<_, _≤_}
+use native.Mathlib.Nat.{lt-of-le-of-lt, lt-of-lt-of-le}
 use native.Mathlib.Omega.{arith}
-use mathlib.Core.Bool.{Bool, true, false, _&&_}
+use mathlib.Core.Bool.{Bool, _&&_}
 use mathlib.Core.List.{List, [], _∷_, _++_}
 use lib.Dec.{eqb}
 use lib.ListN.{length, getD}
@@ -12,23 +12,23 @@ use Rattle.plan.specs.declared.orders.ObservableOrders.{ObservableOrders}
 use Rattle.plan.specs.Kinds.{same-aexpr}
 use Rattle.plan.specs.Lists.{if_then_else_}
 use Rattle.plan.specs.Sheet.{Expr}
-use Rattle.plan.specs.Orders.{∅, no-orders, ExprOrderAcc, add}
-use Rattle.plan.specs.Look.{with-field, in-order, look}
+use Rattle.plan.specs.Orders.{no-orders, add}
+use Rattle.plan.specs.Look.{in-order, look}
 use Rattle.plan.specs.Look as plan
 use Rattle.expr.specs.declared.before.Before.{Before}
 use Rattle.expr.specs.declared.look.Eos.{Eos}
 use Rattle.expr.specs.declared.look.Walk.{Walk}
 use Rattle.expr.specs.declared.order_acc.Seen.{Seen}
 use Rattle.expr.specs.declared.record.ExprRecord.{ExprRecord}
-use Rattle.expr.specs.Acc.{acc-of, none-seen, Adds}
+use Rattle.expr.specs.Acc.{acc-of, Adds}
 use Rattle.expr.specs.Record.{record-of, slot, child-at}
-use Rattle.expr.specs.State.{eos-of, Formed, Kept}
+use Rattle.expr.specs.State.{eos-of, Kept}
 use Rattle.expr.specs.Tables.{before-of}
-use Rattle.expr.specs.Contract.{looked-of, LookAsks, LookGives, Answers, along-from, Begun, AlongAsks, IsWalk, AlongGives}
+use Rattle.expr.specs.Contract.{looked-of, LookAsks, LookGives, along-from, Begun, AlongAsks, AlongGives}
 use Rattle.expr.proofs.Records.{children-length, children-at}
 use Rattle.expr.proofs.States.{kept-trans, formed-kept, fielded, kept-fielded, eos-fielded, eos-field, begun-next}
 use Rattle.expr.proofs.Laws.{up-from, up-look}
-use Rattle.expr.proofs.Along.{length-in-order, slot-below, in-order-at, how, entered, along-more, along-end}
+use Rattle.expr.proofs.Along.{length-in-order, slot-below, in-order-at, entered, along-more, along-end}
 
 module _ (recs : List ℕ) (n : ℕ) (s : Eos) (e : ExprRecord) (b : Before) (l : ℕ) (x : Seen) (i : ℕ) (r : AlongAsks recs n s e b l x i)
     (c : ℕ) (m : Bool) (c-is : c ≡ child-at e (b .turned) i) (m-is : m ≡ (if eqb i 0 then b .first else b .others)) where

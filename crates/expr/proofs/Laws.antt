@@ -1,24 +1,17 @@
 -- Laws of the definition's look: the tally only grows, each way through a look, and one child more of a look along the children.
-use mathlib.Core.Path.{_≡_, refl, sym, ap, _∙_}
-use Prim.Native.Nat.{ℕ, zero, suc, _+_, _<_, _≤_}
+use mathlib.Core.Path.{_≡_}
+use Prim.Native.Nat.{ℕ, zero, suc, _+_, _≤_}
 use native.Mathlib.Nat.{le-refl, le-trans}
 use native.Mathlib.Omega.{arith}
-use mathlib.Core.Bool.{Bool, true, false, _&&_}
+use mathlib.Core.Bool.{Bool, true, false}
 use mathlib.Core.List.{List, [], _∷_, _++_}
 use mathlib.Core.Option.{Option, none, some}
-use lib.Dec.{eqb}
-use lib.ListN.{length, getD, take, drop, length-append, drop-of-length-le, List·getD-append}
-use lib.Seq.{drop-cons, getD-append-seam}
-use borrow.Author.Tests.{eqb-true, eqb-false, eq-eqb, ne-eqb}
-use Rattle.plan.specs.declared.aexpr.AExpr.{AExpr}
+use lib.ListN.{take, drop}
 use Rattle.plan.specs.declared.orders.ObservableOrders.{ObservableOrders}
-use Rattle.plan.specs.Kinds.{same-aexpr}
-use Rattle.plan.specs.Lists.{if_then_else_, first-last}
 use Rattle.plan.specs.Sheet.{Expr, expr-at}
-use Rattle.plan.specs.Orders.{∅, ExprOrderAcc, no-orders, add}
-use Rattle.plan.specs.Look.{Eos, one-look, with-field, Before, before, in-order, check-return-cached, is-replaced, replace-by-input, After, after, enter-struct, Look, look-along, look-again, look-along-children, look-ended, look-whole, look-at, look}
+use Rattle.plan.specs.Orders.{ExprOrderAcc, no-orders, add}
+use Rattle.plan.specs.Look.{Eos, one-look, Before, before, in-order, check-return-cached, is-replaced, replace-by-input, After, after, enter-struct, Look, look-along, look-again, look-along-children, look-ended, look-whole, look-at, look}
 use Rattle.expr.specs.Contract.{Answers, along-from}
-use Rattle.expr.proofs.Accs.{suc-eqb}
 
 -- The end of a look, from what its children answered -----------------------------------------------------------------------------
 

@@ -1,17 +1,15 @@
 -- What the code's list of projected expressions asks and gives, a law for each way through it.
 use mathlib.Core.Path.{_≡_, refl, sym, ap, _∙_, fun-ext}
-use Prim.Native.Nat.{ℕ, zero, suc, _+_, _<_, _≤_, _^_}
-use native.Mathlib.Nat.{le-refl, lt-of-le-of-lt, lt-of-lt-of-le}
+use Prim.Native.Nat.{ℕ, zero, suc, _<_, _≤_}
+use native.Mathlib.Nat.{le-refl, lt-of-le-of-lt}
 use native.Mathlib.Omega.{arith}
 use mathlib.Core.Bool.{Bool, true, false, _&&_, _||_}
 use mathlib.Core.List.{List, [], _∷_}
-use mathlib.Core.Option.{Option, none, some}
-use lib.Dec.{eqb}
+use mathlib.Core.Option.{none}
 use lib.ListN.{length, getD, take, drop, replicate, length-replicate}
 use borrow.Author.Tests.{eqb-true}
 use Rattle.plan.specs.declared.orders.ObservableOrders.{ObservableOrders}
 use Rattle.plan.specs.Lists.{if_then_else_}
-use Rattle.plan.specs.Sheet.{Expr}
 use Rattle.plan.specs.Orders.{∅, _∪_, no-orders, ExprOrderAcc, single}
 use Rattle.plan.specs.Look.{internal-observe, Look, look-along, look-again, look-along-children, look, simplify-projected-exprs}
 use Rattle.plan.specs.Look as plan
@@ -24,9 +22,9 @@ use Rattle.expr.specs.declared.look.Walk.{Walk}
 use Rattle.expr.specs.Acc.{acc-of, none-seen}
 use Rattle.expr.specs.Cache.{cache-of}
 use Rattle.expr.specs.Record.{record-of}
-use Rattle.expr.specs.State.{eos-of, Falls, Based, Formed, Kept}
+use Rattle.expr.specs.State.{eos-of, Formed, Kept}
 use Rattle.expr.specs.Tables.{row-of, before-of}
-use Rattle.expr.specs.Contract.{looked-of, LookAsks, LookGives, Answers, along-from, Begun, AlongAsks, IsWalk, AlongGives}
+use Rattle.expr.specs.Contract.{looked-of, LookAsks, LookGives, Answers, along-from, AlongAsks, IsWalk, AlongGives}
 use Rattle.expr.specs.Projected.{Started, list-record, ListAsks, ListGives}
 use Rattle.expr.proofs.View.{arena-length}
 use Rattle.expr.proofs.States.{kept-trans, formed-kept, answering, kept-answering, eos-answering}

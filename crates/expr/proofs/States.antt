@@ -1,6 +1,6 @@
 -- Laws of the code's state: what its changes are to the definition's, and what they keep.
-use mathlib.Core.Path.{_≡_, refl, sym, ap, _∙_}
-use Prim.Native.Nat.{ℕ, zero, suc, _+_, _*_, _<_, _≤_}
+use mathlib.Core.Path.{_≡_, refl, ap, _∙_}
+use Prim.Native.Nat.{ℕ, _+_, _<_, _≤_}
 use native.Mathlib.Nat.{le-refl, le-trans}
 use native.Mathlib.Omega.{arith}
 use mathlib.Core.Bool.{Bool, true, false, _&&_, _||_}
@@ -20,7 +20,7 @@ use Rattle.expr.specs.declared.after.After.{After}
 use Rattle.expr.specs.declared.look.Eos.{Eos}
 use Rattle.expr.specs.declared.order_acc.Seen.{Seen}
 use Rattle.expr.specs.declared.record.ExprRecord.{ExprRecord}
-use Rattle.expr.specs.Acc.{acc-of, none-seen, Adds, Sees}
+use Rattle.expr.specs.Acc.{Adds}
 use Rattle.expr.specs.Cache.{packed, cache-of}
 use Rattle.expr.specs.Record.{record-of, held}
 use Rattle.expr.specs.State.{eos-of, Sized, Formed, Kept}

@@ -1,21 +1,20 @@
 -- The code's lines and the definition's arena: reading a line, copying one over another, switching one off; an entry of the cache.
-use mathlib.Core.Path.{_≡_, refl, sym, ap, ap₂, _∙_, fun-ext}
-use Prim.Native.Nat.{ℕ, zero, suc, _+_, _*_, _<_, _≤_}
-use native.Mathlib.Omega.{arith}
+use mathlib.Core.Path.{_≡_, refl, sym, _∙_, fun-ext}
+use Prim.Native.Nat.{ℕ, _<_}
 use mathlib.Core.Bool.{Bool, true, false, _||_}
-use mathlib.Core.List.{List, [], _∷_}
-use mathlib.Core.Option.{Option, none, some}
+use mathlib.Core.List.{List}
+use mathlib.Core.Option.{some}
 use lib.Dec.{eqb}
 use lib.ListN.{length, getD, set, length-set}
 use lib.Seq.{ext-getD, getD-set-same, getD-set-other, set-getD}
-use borrow.Author.Tests.{eqb-true, eqb-false, eq-eqb, ne-eqb}
+use borrow.Author.Tests.{eqb-true, eqb-false}
 use Rattle.plan.specs.declared.orders.ObservableOrders.{ObservableOrders}
 use Rattle.plan.specs.Lists.{if_then_else_}
-use Rattle.plan.specs.Sheet.{Expr, no-expr, expr-at}
+use Rattle.plan.specs.Sheet.{no-expr, expr-at}
 use Rattle.plan.specs.Look.{with-entry, switched-off}
-use Rattle.plan.specs.Stored.{table, stored-expr, held-expr, arena-of}
+use Rattle.plan.specs.Stored.{held-expr, arena-of}
 use Rattle.plan.specs.StoredLaws.{length-table, table-at}
-use Rattle.expr.specs.Cache.{packed, unpacked, entry-of, cache-of}
+use Rattle.expr.specs.Cache.{packed, entry-of, cache-of}
 use Rattle.expr.specs.Record.{held}
 
 -- The arena ----------------------------------------------------------------------------------------------------------------------

@@ -1,13 +1,13 @@
 -- What the code's look asks and gives, a law for each way through it.
 use mathlib.Core.Path.{_≡_, refl, sym, ap, _∙_}
 use Prim.Native.Nat.{ℕ, zero, suc, _+_, _*_, _<_, _≤_, _^_}
-use native.Mathlib.Nat.{le-refl, le-trans, le-of-lt, lt-of-le-of-lt, lt-of-lt-of-le}
+use native.Mathlib.Nat.{le-refl, le-of-lt, lt-of-le-of-lt, lt-of-lt-of-le}
 use native.Mathlib.Omega.{arith}
 use mathlib.Core.Bool.{Bool, true, false, _&&_, _||_, not}
 use mathlib.Core.List.{List, [], _∷_}
 use mathlib.Core.Option.{Option, none, some}
 use lib.Dec.{eqb}
-use lib.ListN.{length, getD, set}
+use lib.ListN.{length, getD}
 use lib.Seq.{getD-set-same}
 use borrow.Author.Tests.{eqb-true}
 use Rattle.plan.specs.declared.aexpr.AExpr.{AExpr}
@@ -16,24 +16,23 @@ use Rattle.plan.specs.Kinds.{same-aexpr}
 use Rattle.plan.specs.Lists.{if_then_else_, all?}
 use Rattle.plan.specs.Sheet.{Expr, expr-at}
 use Rattle.plan.specs.Orders.{∅, no-orders, ExprOrderAcc, single}
-use Rattle.plan.specs.Look.{one-look, with-field, before, check-return-cached, is-replaced, replace-by-input, after, enter-struct, look-along-children, look-ended, look}
+use Rattle.plan.specs.Look.{one-look, before, check-return-cached, is-replaced, replace-by-input, after, enter-struct, look-ended, look}
 use Rattle.plan.specs.Look as plan
 use Rattle.plan.specs.Stored.{stored-expr, Expr-formed}
 use Rattle.expr.specs.declared.after.After.{After}
 use Rattle.expr.specs.declared.before.Before.{Before}
 use Rattle.expr.specs.declared.look.Eos.{Eos}
 use Rattle.expr.specs.declared.look.Walk.{Walk}
-use Rattle.expr.specs.declared.order_acc.Seen.{Seen}
 use Rattle.expr.specs.declared.record.ExprRecord.{ExprRecord}
-use Rattle.expr.specs.Acc.{acc-of, none-seen, Sees}
+use Rattle.expr.specs.Acc.{acc-of, none-seen}
 use Rattle.expr.specs.Cache.{unpacked, cache-of}
 use Rattle.expr.specs.Record.{record-of, held, IsHeld}
 use Rattle.expr.specs.State.{eos-of, Falls, Based, Formed, Kept, Readable, sorts, preserves, is-replaced-line}
 use Rattle.expr.specs.Tables.{before-of, after-of, answers}
 use Rattle.expr.specs.Contract.{looked-of, LookAsks, LookGives, ended-by, Ended, AgainAsks, AgainGives, Answers, along-from, Begun, AlongAsks, IsWalk, AlongGives}
-use Rattle.expr.proofs.Records.{no, children-length, stored}
+use Rattle.expr.proofs.Records.{no, stored}
 use Rattle.expr.proofs.States.{kept-trans, formed-kept, counted, answering, copied, kept-counted, kept-answering, kept-copied, eos-cache, eos-field, eos-looks, eos-counted, eos-answering, eos-at, eos-copied}
-use Rattle.expr.proofs.Laws.{finish, after-answers, finish-again, finish-done, look-hit, look-copied, look-rest, up-from, up-finish, up-look, up-count}
+use Rattle.expr.proofs.Laws.{finish, after-answers, finish-again, finish-done, look-hit, look-copied, look-rest, up-finish, up-look, up-count}
 use Rattle.expr.proofs.Along.{along-none, ended-entered, after-none, after-seen}
 
 -- Of Bools and lists -------------------------------------------------------------------------------------------------------------

@@ -1,14 +1,14 @@
 -- ExprOrderAcc as the definition has it, and the answers of the first three children.
 use mathlib.Core.Path.{_≡_}
 use Prim.Native.Nat.{ℕ}
-use mathlib.Core.Bool.{Bool, true, false}
+use mathlib.Core.Bool.{false}
 use mathlib.Core.List.{List}
 use lib.Dec.{eqb}
 use lib.ListN.{getD}
 use Rattle.plan.specs.declared.orders.ObservableOrders.{ObservableOrders}
 use Rattle.plan.specs.Lists.{if_then_else_}
 use Rattle.plan.specs.Orders as orders
-use Rattle.plan.specs.Orders.{∅, no-orders, add}
+use Rattle.plan.specs.Orders.{∅, add}
 use Rattle.expr.specs.declared.order_acc.ExprOrderAcc.{ExprOrderAcc}
 use Rattle.expr.specs.declared.order_acc.Seen.{Seen}
 

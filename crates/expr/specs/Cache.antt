@@ -1,6 +1,6 @@
 -- An entry of the revisit cache in one byte.
 use Prim.Native.Nat.{ℕ}
-use mathlib.Core.Bool.{Bool, true, false, _||_}
+use mathlib.Core.Bool.{_||_}
 use mathlib.Core.List.{List}
 use mathlib.Core.Option.{Option, none, some}
 use lib.Dec.{eqb, ltb}

@@ -1,7 +1,7 @@
 -- What a list of projected expressions asks and gives, and the state that a visit starts with.
 use mathlib.Core.Path.{_≡_}
 use Prim.Native.Nat.{ℕ, _≤_, _<_, _^_}
-use mathlib.Core.Bool.{Bool, true, false}
+use mathlib.Core.Bool.{Bool, false}
 use mathlib.Core.List.{List}
 use lib.ListN.{length, take}
 use Rattle.plan.specs.declared.aexpr.AExpr.{AExpr}

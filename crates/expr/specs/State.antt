@@ -1,14 +1,13 @@
 -- The state of the looks as the definition has it, and what a look asks of it.
 use mathlib.Core.Path.{_≡_}
 use Prim.Native.Nat.{ℕ, _+_, _*_, _≤_, _<_}
-use mathlib.Core.Bool.{Bool, true, false, _&&_, _||_}
-use mathlib.Core.List.{List, [], _∷_}
+use mathlib.Core.Bool.{Bool, true, _&&_, _||_}
+use mathlib.Core.List.{List}
 use lib.Dec.{eqb}
 use lib.ListN.{length, getD}
 use Rattle.plan.specs.declared.aexpr.AExpr.{AExpr}
-use Rattle.plan.specs.declared.orders.ObservableOrders.{ObservableOrders}
 use Rattle.plan.specs.Kinds.{same-aexpr}
-use Rattle.plan.specs.Lists.{if_then_else_, all?}
+use Rattle.plan.specs.Lists.{all?}
 use Rattle.plan.specs.Sheet.{Expr}
 use Rattle.plan.specs.Look as look
 use Rattle.plan.specs.Stored.{stored-expr, arena-of, Expr-formed}

@@ -1,14 +1,12 @@
 -- What refusal 4 gives a look: a Sort and a SortBy that fit the table have a child.
-use mathlib.Core.Path.{_≡_, refl, sym, _∙_}
+use mathlib.Core.Path.{_≡_, refl}
 use Prim.Native.Nat.{ℕ, _<_}
 use native.Mathlib.Omega.{arith}
-use mathlib.Core.Bool.{Bool, true, false, _&&_, _||_, not}
-use lib.Dec.{leb, eqb}
+use mathlib.Core.Bool.{Bool, true, false, _&&_}
+use lib.Dec.{leb}
 use lib.ListN.{length}
 use borrow.Author.Tests.{leb-true}
 use Rattle.plan.specs.declared.aexpr.AExpr.{AExpr}
-use Rattle.plan.specs.Kinds.{same-aexpr}
-use Rattle.plan.specs.Lists.{yes?}
 use Rattle.plan.specs.Sheet.{Expr, expr-table, in-expr-table}
 use Rattle.expr.specs.State.{sorts}
 

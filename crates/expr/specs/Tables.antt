@@ -1,6 +1,6 @@
 -- The rows of the tables before and after the looks along the children.
 use Prim.Native.Nat.{ℕ}
-use mathlib.Core.Bool.{Bool, true, false, _&&_, _||_, not}
+use mathlib.Core.Bool.{Bool, true, _&&_, _||_, not}
 use mathlib.Core.List.{List, [], _∷_}
 use lib.Dec.{eqb}
 use Rattle.plan.specs.declared.orders.ObservableOrders.{ObservableOrders}

@@ -2,7 +2,7 @@
 ghost use mathlib.Core.Path.{_≡_};
 ghost use Prim.Native.Nat.{_<_};
 ghost use Rattle.plan.specs.Lists.{if_then_else_};
-ghost use Rattle.plan.specs.Orders.{∅, no-orders, add};
+ghost use Rattle.plan.specs.Orders.{add};
 ghost use Rattle.expr.specs.Acc.{acc-of, none-seen, Adds};
 use plan::orders::ObservableOrders;
 
