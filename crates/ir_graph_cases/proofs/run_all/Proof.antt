@@ -3,13 +3,13 @@ use Prim.Native.Nat.{_+_, _≤_}
 use lib.ListN.{length}
 use borrow.Author.Needs.{needs}
 use Rattle.reading.proofs.LineFields.{length-from}
-use Rattle.ir_graph_cases.proofs.cases.run_all.Statement.{statement}
-use Rattle.ir_graph_cases.proofs.cases.run_all.Tie as tie
-use Rattle.ir_graph_cases.proofs.cases.run_all.Reads as reads
-use Rattle.ir_graph_cases.proofs.cases.run_all.Lts as lts
-use Rattle.ir_graph_cases.proofs.cases.case_agrees.Reads as case-agrees-reads
-use Rattle.ir_graph_cases.proofs.cases.case_length.Reads as case-length-reads
-use Rattle.ir_graph_cases.proofs.cases.counted.Reads as counted-reads
+use Rattle.ir_graph_cases.proofs.run_all.Statement.{statement}
+use Rattle.ir_graph_cases.proofs.run_all.Tie as tie
+use Rattle.ir_graph_cases.proofs.run_all.Reads as reads
+use Rattle.ir_graph_cases.proofs.run_all.Lts as lts
+use Rattle.ir_graph_cases.proofs.case_agrees.Reads as case-agrees-reads
+use Rattle.ir_graph_cases.proofs.case_length.Reads as case-length-reads
+use Rattle.ir_graph_cases.proofs.counted.Reads as counted-reads
 
 abbrev Inv-loop : tie.InvT-loop
 Inv-loop cases s₀ rest₀ s rest = (s .all + length rest ≤ length cases) × (s .agree ≤ s .all)
@@ -17,43 +17,33 @@ Inv-loop cases s₀ rest₀ s rest = (s .all + length rest ≤ length cases) × 
 abbrev μ-loop : tie.MeasureT-loop
 μ-loop cases s₀ rest₀ s rest = length rest
 
--- src/cases.rt:89:5
 loop-holds : tie.Need-loop-holds Inv-loop μ-loop
 loop-holds c = search needs
 
--- src/cases.rt:90:24
 case-agrees-requires : tie.Need-case-agrees-requires Inv-loop μ-loop
 case-agrees-requires c κs = search needs
 
--- src/cases.rt:90:9
 counted-requires : tie.Need-counted-requires Inv-loop μ-loop
 counted-requires c κs = search needs
 
--- src/cases.rt:91:13
 case-length-requires : tie.Need-case-length-requires Inv-loop μ-loop
 case-length-requires c κs = search needs
 
--- src/cases.rt:92:16
 sub-rest : tie.Need-sub-rest Inv-loop μ-loop
 sub-rest c = search needs
 
--- src/cases.rt:92:16
 part-rest-start : tie.Need-part-rest-start Inv-loop μ-loop
 part-rest-start c = search needs
 
--- src/cases.rt:92:16
 part-rest-end : tie.Need-part-rest-end Inv-loop μ-loop
 part-rest-end c = search needs
 
--- src/cases.rt:89:5
 loop-less : tie.Need-loop-less Inv-loop μ-loop
 loop-less c = omega (arith, length-from (c .before .before .before .before .before .loop .rest .now) (c .before .case-length .result), c .before .case-length .ensures .0, c .before .case-length .ensures .1)
 
--- src/cases.rt:89:5
 loop-again : tie.Need-loop-again Inv-loop μ-loop
 loop-again c = (omega (arith, length-from (c .before .before .before .before .before .loop .rest .now) (c .before .case-length .result), c .before .case-length .ensures .0, c .before .case-length .ensures .1, c .before .before .counted .ensures .0, c .before .before .before .before .before .loop .inv .0), c .before .before .counted .ensures .1)
 
--- src/cases.rt:82:1
 returns : tie.Need-returns Inv-loop μ-loop
 returns c = search needs
 

@@ -1,25 +1,21 @@
 use Rattle.ir_graph_cases.proofs.Accepted.{accepted, held}
 use borrow.Author.Needs.{needs}
-use Rattle.ir_graph_cases.proofs.compare.agrees.Statement.{statement}
-use Rattle.ir_graph_cases.proofs.compare.agrees.Tie as tie
-use Rattle.ir_graph_cases.proofs.compare.agrees.Reads as reads
-use Rattle.ir_graph_cases.proofs.compare.agrees.Lts as lts
-use Rattle.ir_graph_cases.proofs.compare.graph_agrees.Reads as graph-agrees-reads
+use Rattle.ir_graph_cases.proofs.agrees.Statement.{statement}
+use Rattle.ir_graph_cases.proofs.agrees.Tie as tie
+use Rattle.ir_graph_cases.proofs.agrees.Reads as reads
+use Rattle.ir_graph_cases.proofs.agrees.Lts as lts
+use Rattle.ir_graph_cases.proofs.graph_agrees.Reads as graph-agrees-reads
 use Rattle.reading.proofs.read_plan.Reads as read-plan-reads
 
--- src/compare.rt:75:11
 read-plan-requires : tie.Need-read-plan-requires
 read-plan-requires c κs = search needs
 
--- src/compare.rt:76:32
 enum-known-k : tie.Need-enum-known-k
 enum-known-k c = search needs
 
--- src/compare.rt:77:30
 enum-known-c : tie.Need-enum-known-c
 enum-known-c c = search needs
 
--- src/compare.rt:77:36
 graph-agrees-requires : tie.Need-graph-agrees-requires
 graph-agrees-requires c κs =
     let r = c .before .before .before .before .read-plan in
@@ -27,11 +23,9 @@ graph-agrees-requires c κs =
     let h = held (c .before .before .before .before .before .before .before .before .before .before .args .sheet .now) (r .last .1 .0) (r .last .1 .1 .0) _ _ e (r .ensures .1) in
     (h .few, (accepted (c .before .before .before .before .before .before .before .before .before .before .args .sheet .now) (r .last .1 .0) (r .last .1 .1 .0) _ _ e (r .ensures .0), λ i l. h .each i l .formed))
 
--- src/compare.rt:72:1
 returns : tie.Need-returns
 returns c = search needs
 
--- src/compare.rt:72:1
 returns-2 : tie.Need-returns-2
 returns-2 c = search needs
 

@@ -2,10 +2,10 @@ use native.Mathlib.Omega.{arith}
 use Prim.Native.Nat.{_-_}
 use lib.ListN.{length}
 use borrow.Author.Needs.{needs}
-use Rattle.ir_graph_cases.proofs.compare.begins.Statement.{statement}
-use Rattle.ir_graph_cases.proofs.compare.begins.Tie as tie
-use Rattle.ir_graph_cases.proofs.compare.begins.Reads as reads
-use Rattle.ir_graph_cases.proofs.compare.begins.Lts as lts
+use Rattle.ir_graph_cases.proofs.begins.Statement.{statement}
+use Rattle.ir_graph_cases.proofs.begins.Tie as tie
+use Rattle.ir_graph_cases.proofs.begins.Reads as reads
+use Rattle.ir_graph_cases.proofs.begins.Lts as lts
 
 abbrev Inv-loop : tie.InvT-loop
 Inv-loop a b i₀ i = Unit {0}
@@ -13,35 +13,27 @@ Inv-loop a b i₀ i = Unit {0}
 abbrev μ-loop : tie.MeasureT-loop
 μ-loop a b i₀ i = length b - i
 
--- src/compare.rt:14:5
 loop-holds : tie.Need-loop-holds Inv-loop μ-loop
 loop-holds c = tt
 
--- src/compare.rt:15:12
 element-copy-out-if1 : tie.Need-element-copy-out-if1 Inv-loop μ-loop
 element-copy-out-if1 c = omega arith
 
--- src/compare.rt:15:20
 shared-slice-read-if1 : tie.Need-shared-slice-read-if1 Inv-loop μ-loop
 shared-slice-read-if1 c = omega arith
 
--- src/compare.rt:16:13
 returns : tie.Need-returns Inv-loop μ-loop
 returns c = tt
 
--- src/compare.rt:18:9
 add-i : tie.Need-add-i Inv-loop μ-loop
 add-i c = omega arith
 
--- src/compare.rt:14:5
 loop-less : tie.Need-loop-less Inv-loop μ-loop
 loop-less c = omega arith
 
--- src/compare.rt:14:5
 loop-again : tie.Need-loop-again Inv-loop μ-loop
 loop-again c = tt
 
--- src/compare.rt:10:1
 returns-2 : tie.Need-returns-2 Inv-loop μ-loop
 returns-2 c = tt
 

@@ -1,10 +1,10 @@
 use native.Mathlib.Omega.{arith}
 use Prim.Native.Nat.{_-_}
 use borrow.Author.Needs.{needs}
-use Rattle.ir_graph_cases.proofs.compare.pairs_begin.Statement.{statement}
-use Rattle.ir_graph_cases.proofs.compare.pairs_begin.Tie as tie
-use Rattle.ir_graph_cases.proofs.compare.pairs_begin.Reads as reads
-use Rattle.ir_graph_cases.proofs.compare.pairs_begin.Lts as lts
+use Rattle.ir_graph_cases.proofs.pairs_begin.Statement.{statement}
+use Rattle.ir_graph_cases.proofs.pairs_begin.Tie as tie
+use Rattle.ir_graph_cases.proofs.pairs_begin.Reads as reads
+use Rattle.ir_graph_cases.proofs.pairs_begin.Lts as lts
 
 abbrev Inv-loop : tie.InvT-loop
 Inv-loop consumer slot b n i₀ i = Unit {0}
@@ -12,59 +12,45 @@ Inv-loop consumer slot b n i₀ i = Unit {0}
 abbrev μ-loop : tie.MeasureT-loop
 μ-loop consumer slot b n i₀ i = n - i
 
--- src/compare.rt:28:5
 loop-holds : tie.Need-loop-holds Inv-loop μ-loop
 loop-holds c = tt
 
--- src/compare.rt:29:12
 element-copy-out-if1 : tie.Need-element-copy-out-if1 Inv-loop μ-loop
 element-copy-out-if1 c = omega arith
 
--- src/compare.rt:29:29
 add-if1 : tie.Need-add-if1 Inv-loop μ-loop
 add-if1 c = omega arith
 
--- src/compare.rt:29:27
 shared-slice-read-if1 : tie.Need-shared-slice-read-if1 Inv-loop μ-loop
 shared-slice-read-if1 c = omega arith
 
--- src/compare.rt:30:13
 returns : tie.Need-returns Inv-loop μ-loop
 returns c = tt
 
--- src/compare.rt:32:12
 element-copy-out-if2 : tie.Need-element-copy-out-if2 Inv-loop μ-loop
 element-copy-out-if2 c = omega arith
 
--- src/compare.rt:32:25
 add-if2 : tie.Need-add-if2 Inv-loop μ-loop
 add-if2 c = omega arith
 
--- src/compare.rt:32:25
 add-if2-2 : tie.Need-add-if2-2 Inv-loop μ-loop
 add-if2-2 c = omega arith
 
--- src/compare.rt:32:23
 shared-slice-read-if2 : tie.Need-shared-slice-read-if2 Inv-loop μ-loop
 shared-slice-read-if2 c = omega arith
 
--- src/compare.rt:33:13
 returns-2 : tie.Need-returns-2 Inv-loop μ-loop
 returns-2 c = tt
 
--- src/compare.rt:35:9
 add-i : tie.Need-add-i Inv-loop μ-loop
 add-i c = omega arith
 
--- src/compare.rt:28:5
 loop-less : tie.Need-loop-less Inv-loop μ-loop
 loop-less c = omega arith
 
--- src/compare.rt:28:5
 loop-again : tie.Need-loop-again Inv-loop μ-loop
 loop-again c = tt
 
--- src/compare.rt:24:1
 returns-3 : tie.Need-returns-3 Inv-loop μ-loop
 returns-3 c = tt
 
