@@ -2,4 +2,5 @@ pub mod WellFormed
 pub mod LooksMade
 pub mod Demand3
 pub mod Limits
+pub mod Visitable
 pub mod Demand1
