@@ -11,14 +11,14 @@ use Rattle.plan.specs.declared.ir.IR.{IR}
 use Rattle.plan.specs.Kinds.{same-ir}
 use Rattle.plan.specs.Lists.{if_then_else_, sum}
 use Rattle.plan.specs.Sheet.{Expr, Step, no-step, step-at, expr-at}
-use Rattle.plan.specs.Visit.{Run, Around, Looked, looked-in, looks-of, ruling, around, with-implodes}
+use Rattle.plan.specs.Visit.{Run, Around, Looked, looked-in, looks-of, ruling, with-implodes}
 use Rattle.claims.proofs.Counts.{sum-eq, sum-append}
 use Rattle.claims.proofs.Sums.{sum-part, sum-set, sum-set-le, sum-beside, mark, below-one}
 use Rattle.claims.proofs.Loads.{load, load-own}
 use Rattle.claims.proofs.Changes.{earlier-of, changed-formed, changed-length, changed-loads}
 use Rattle.claims.proofs.Implodes.{Inside, still-to-append, appended-count}
 use Rattle.claims.proofs.Once.{entries, step-load}
-use Rattle.claims.proofs.Rules.{Ruled, ruled}
+use Rattle.claims.proofs.Rules.{Ruled, ruled-by}
 use Rattle.claims.proofs.Scalars.{scalar-at, list-scalar}
 use Rattle.claims.proofs.LooksBounded.{once-started}
 use Rattle.claims.proofs.VisitLooks.{Sound, inside-of-step, inside-of-member, imploded-start, once-start, exprs-spent, aggs-spent, looks-change}
@@ -111,7 +111,7 @@ module _ (r : Run) (sound : Sound r) (n : ℕ) where
       omega (
         arith,
         sum-set-le (still-to-append end) (r .steps) n s′ (l .step)
-            (rule-leaves end (l .step) s′ (ruled (l .step) (around n (r .edges)) (l .observable) (l .step .kind))),
+            (rule-leaves end (l .step) s′ (ruled-by n r)),
         sum-eq (still-to-append end) (still-to-append es′) (set (r .steps) n (l .step)) looks-leave,
         sum-set (still-to-append es′) (r .steps) no-step n (l .step),
         sum-eq (still-to-append es′) (still-to-append es) (r .steps) (λ x m. old x (inside-of-member r sound x m)),

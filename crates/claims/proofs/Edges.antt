@@ -110,7 +110,7 @@ at-map f (d ∷ l) zero h = refl
 at-map f (d ∷ l) (suc k) h = at-map f l k (omega arith)
 
 -- the edge is relinked, or loosened
-visit-edge : (Q : Edge → Type 0) (n : ℕ) (r : Run) {r′ : Run} → simplify-ir-node-orders n r ≡ done r′ → (k : ℕ) → k < length (r .edges)
+pub visit-edge : (Q : Edge → Type 0) (n : ℕ) (r : Run) {r′ : Run} → simplify-ir-node-orders n r ≡ done r′ → (k : ℕ) → k < length (r .edges)
     → ((input : ℕ) → Q (relinked n input (edge-at k r))) → ((l : Loosened) → Q (loosened n l (edge-at k r))) → Q (edge-at k r′)
 unfolding unlink-node settled
 visit-edge Q n r e k h f g =

@@ -44,4 +44,5 @@ pub mod PrintableStart
 pub mod WithinLimits
 pub mod Demand3
 pub mod Demand1
+pub mod Visitables
 pub mod EnoughFuel

@@ -9,7 +9,7 @@ use lib.ListN.{length, set}
 use Rattle.plan.specs.Lists.{sum}
 use Rattle.plan.specs.Sheet.{Expr, Step, Sheet, done, no-step, step-at}
 use Rattle.plan.specs.Graph.{graph}
-use Rattle.plan.specs.Visit.{Run, simplify-ir-node-orders, unlink-node, one-visit, settled, looked-in, ruling, around, out-edge}
+use Rattle.plan.specs.Visit.{Run, simplify-ir-node-orders, unlink-node, one-visit, settled, looked-in, ruling, out-edge}
 use Rattle.plan.specs.Walks.{begin, down}
 use Rattle.claims.specs.WellFormed.{Accepted, WellFormed}
 use Rattle.claims.specs.Demand3.{Down, Up, Looks-bounded}
@@ -21,7 +21,7 @@ use Rattle.claims.proofs.Loads.{load}
 use Rattle.claims.proofs.Changes.{changed-formed, changed-length, changed-loads}
 use Rattle.claims.proofs.Implodes.{Inside, old-loads}
 use Rattle.claims.proofs.Once.{entries, step-load, Once, formed-at-start, once-at-start}
-use Rattle.claims.proofs.Rules.{Ruled, ruled}
+use Rattle.claims.proofs.Rules.{Ruled, ruled-by}
 use Rattle.claims.proofs.VisitLooks.{Sound, no-load, inside-of-step, inside-of-member, imploded-start, loads-start, looks-change, looks-bounded-in}
 
 -- a rule's step weighs no more
@@ -76,7 +76,7 @@ module _ (r : Run) (sound : Sound r) where
         sum-le (step-load w (l .end .expr-arena)) (step-load w es′) (set (r .steps) n s′)
             (λ x _. changed-loads c (imploded-start r sound n .formed) w (entries x)),
         sum-set-le (step-load w es′) (r .steps) n s′ (l .step)
-            (rule-load w es′ (l .step) s′ (ruled (l .step) (around n (r .edges)) (l .observable) (l .step .kind))),
+            (rule-load w es′ (l .step) s′ (ruled-by n r)),
         once-started n w,
         ap (sum-below w) (changed-length c),
       )

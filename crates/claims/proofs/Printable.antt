@@ -12,11 +12,11 @@ use Rattle.plan.specs.Kinds.{same-ir}
 use Rattle.plan.specs.Lists.{if_then_else_}
 use Rattle.plan.specs.Sheet.{Expr, Step, done, no-expr, no-step, expr-at, step-at}
 use Rattle.plan.specs.Graph.{Edge}
-use Rattle.plan.specs.Visit.{Run, implode, implode-over, imploded, with-implodes, looks-of, looked-in, ruling, around, out-edge, no-edge, is-into, is-out-of, relinked, with-input, unlink-node, one-visit, settled, simplify-ir-node-orders}
+use Rattle.plan.specs.Visit.{Run, implode, implode-over, imploded, with-implodes, looks-of, looked-in, ruling, out-edge, no-edge, is-into, is-out-of, relinked, with-input, unlink-node, one-visit, settled, simplify-ir-node-orders}
 use Rattle.claims.proofs.Walks.{two-ways}
 use Rattle.claims.proofs.Every.{Every, every-set, every-append, every-map}
 use Rattle.claims.proofs.Changes.{Changes, no-change, takes-input, goes-off}
-use Rattle.claims.proofs.Rules.{Small, Ruled, ruled}
+use Rattle.claims.proofs.Rules.{Small, Ruled, ruled-by}
 use Rattle.claims.proofs.VisitLooks.{Sound, looks-change}
 
 -- Records ----------------------------------------------------------------------------------------------------------------------
@@ -156,7 +156,7 @@ module _ (r : Run) (k : Printable r) (n : ℕ) where
         exprs = slim-changed (looks-change r sound n) (i .slim (k .exprs));
         steps =
             every-set Plain no-step (r .steps) n _ (k .steps)
-            (plain-ruled (l .step) _ (ruled (l .step) (around n (r .edges)) (l .observable) (l .step .kind)) started);
+            (plain-ruled (l .step) _ (ruled-by n r) started);
         edges = every-map Short-edge no-edge _ (r .edges) (k .edges) (λ d h. record { consumer = h .consumer; slot = h .slot });
         removed = omega (arith, k .removed);
       }

@@ -36,7 +36,7 @@ use Rattle.claims.proofs.NoCacheAfter.{none-after}
 -- The steps removed by a walk ---------------------------------------------------------------------------------------------------------
 
 -- a visit removes just the step that it is at, if that goes
-removes : (n : ℕ) (r r′ : Run) → simplify-ir-node-orders n r ≡ done r′
+pub removes : (n : ℕ) (r r′ : Run) → simplify-ir-node-orders n r ≡ done r′
     → ((goes n r ≡ true) × (r′ .removed ≡ n ∷ r .removed) × (r′ .back ≡ r .back)) ⊎ ((r′ .removed ≡ r .removed) × (r′ .back ≡ n ∷ r .back))
 unfolding unlink-node settled
 removes n r r′ e =

@@ -12,7 +12,7 @@ use Rattle.plan.specs.declared.join.MaintainOrderJoin.{MaintainOrderJoin}
 use Rattle.plan.specs.Kinds.{keep-strategy-number, maintain-order-number, join-type, same-join-type}
 use Rattle.plan.specs.Lists.{if_then_else_}
 use Rattle.plan.specs.Sheet.{Step}
-use Rattle.plan.specs.Visit.{Around, Observable, Loosened, rule, with-options, unordered-union, merge-sorted-all, kept-by-rhs, distinct-out, distinct-in, distinct-keeps, sink-in, sort-in, group-by-out, union-all}
+use Rattle.plan.specs.Visit.{Run, looked-in, ruling, around, Around, Observable, Loosened, rule, with-options, unordered-union, merge-sorted-all, kept-by-rhs, distinct-out, distinct-in, distinct-keeps, sink-in, sort-in, group-by-out, union-all}
 
 abbrev pub Same-lists : Step → Step → Type 0
 Same-lists s s′ = (s′ .exprs ≡ s .exprs) × (s′ .aggs ≡ s .aggs) × (s′ .kind ≡ s .kind)
@@ -69,7 +69,7 @@ module _ (s : Step) (e : Around) (o : Observable) where
       record { inputs = refl; lists = inr (refl, refl, refl); small = λ k. record { a = omega arith; b = omega arith; c = omega arith } }
   merged false = itself s
 
-  pub ruled : (k : IR) → Ruled s (rule s e o k .0)
+  ruled : (k : IR) → Ruled s (rule s e o k .0)
   unfolding rule
   ruled IR.Scan = itself s
   ruled IR.UnoptimizedDispatch = itself s
@@ -92,3 +92,8 @@ module _ (s : Step) (e : Around) (o : Observable) where
   ruled IR.ExtContext = itself s
   ruled IR.SimpleProjection = itself s
   ruled IR.Cache = itself s
+
+-- the rule of a visit
+pub ruled-by : (n : ℕ) (r : Run) → Ruled (looked-in n r .step) (ruling n r .0)
+unfolding ruling
+ruled-by n r = let l = looked-in n r in ruled (l .step) (around n (r .edges)) (l .observable) (l .step .kind)

@@ -42,7 +42,7 @@ few-of-128 : (n before after : ℕ) → n ≤ 128 → 2 * after ≤ 2 * before +
 few-of-128 n before after h k = omega (arith, mul-le-mul h (add-le-add h (le-refl 5)))
 
 module _ (r : Run) (sound : Sound r) (n : ℕ) where
-  end-length : length (looked-in n r .end .expr-arena) ≡ length (looked-in n r .start .expr-arena)
+  pub end-length : length (looked-in n r .end .expr-arena) ≡ length (looked-in n r .start .expr-arena)
   end-length = changed-length (looks-change r sound n)
 
   looks-of-visit : length (looked-in n r .end .expr-arena) ≤ 128 → looked-in n r .end .looks ≤ r .looks + 17024
@@ -100,7 +100,7 @@ module _ {most left : ℕ} (r : Run) (k : Within most (suc left) r) (n : ℕ) wh
         looks = omega (arith, k .looks);
       }
 
-  end-within : length (looked-in n r .end .expr-arena) ≤ 128
+  pub end-within : length (looked-in n r .end .expr-arena) ≤ 128
   end-within = omega (arith, room-settled r (k .sound) n, k .room)
 
   within-settled : Within most left (settled n (one-visit r))
@@ -115,7 +115,7 @@ module _ {most left : ℕ} (r : Run) (k : Within most (suc left) r) (n : ℕ) wh
         looks = omega (arith, k .looks, looks-of-visit r (k .sound) n end-within);
       }
 
-  visit-limits : most ≤ 2 ^ 32 → Visit-limits n r
+  pub visit-limits : most ≤ 2 ^ 32 → Visit-limits n r
   unfolding settled looked-in
   visit-limits h =
       record {
@@ -133,7 +133,7 @@ module _ {most left : ℕ} (r : Run) (k : Within most (suc left) r) (n : ℕ) wh
         looks = omega (arith, k .looks, k .visits, looks-of-visit r (k .sound) n end-within);
       }
 
-within-visit : (most n : ℕ) (ns : List ℕ) (r r′ : Run) → Within most (length (n ∷ ns)) r → simplify-ir-node-orders n r ≡ done r′ → Within most (length ns) r′
+pub within-visit : (most n : ℕ) (ns : List ℕ) (r r′ : Run) → Within most (length (n ∷ ns)) r → simplify-ir-node-orders n r ≡ done r′ → Within most (length ns) r′
 within-visit most n ns r r′ k e =
     elim (two-ways n r e) [
       | inl (_, i) ↦ subst (Within most (length ns)) (sym i) (within-unlinked r k n)
@@ -163,7 +163,7 @@ unfolding over-limits
 few-exprs sh wf = nltb→le 128 (expr-count sh) (neither (ltb 32 (length (sh .steps))) (ltb 128 (expr-count sh)) (wf .within-limits) .1)
 
 module _ (sh : Sheet) (wf : WellFormed sh) where
-  within-begin : Within 288 (length (graph (sh .steps) .0)) (begin sh)
+  pub within-begin : Within 288 (length (graph (sh .steps) .0)) (begin sh)
   unfolding begin expr-count
   within-begin =
       record {
@@ -175,7 +175,7 @@ module _ (sh : Sheet) (wf : WellFormed sh) where
         looks = omega arith;
       }
 
-  within-half : (half : Run) → down sh ≡ done half → Within 576 (length (half .back)) half
+  pub within-half : (half : Run) → down sh ≡ done half → Within 576 (length (half .back)) half
   unfolding down begin
   within-half half e =
       let k = walk-keeps (λ ns r. Within 288 (length ns) r) (within-visit 288) (graph (sh .steps) .0) (begin sh) within-begin e in

@@ -79,15 +79,20 @@ pub sort-holds-out : (n : ℕ) (r : Run) → step-at (r .steps) n .kind ≡ IR.S
 unfolding ruling looked-in looks-of
 sort-holds-out n r i = rule-holds-out (looked-in n r .step) _ (looked-in n r .observable) i
 
--- another step at c, which is as much of a sort as the one before
+-- another step at c, of which f reads what it read of the one before
+pub reads-kept : {A : Type 0} (f : Step → A) (ps : List Step) (c : ℕ) (s : Step) → f s ≡ f (step-at ps c)
+    → (n : ℕ) → f (step-at (set ps c s) n) ≡ f (step-at ps n)
+reads-kept f ps c s e n = by (decLt c (length ps)) (ℕ-discrete n c)
+  where
+    by : Dec (c < length ps) → Dec (n ≡ c) → f (step-at (set ps c s) n) ≡ f (step-at ps n)
+    by (yes l) (yes i) = rw i (ap f (getD-set-same ps c s no-step l) ∙ e)
+    by (yes l) (no m) = ap f (getD-set-other ps c n s no-step m)
+    by (no l) d = ap (λ (x : List Step). f (step-at x n)) (set-out ps c s (omega arith))
+
+-- one that is as much of a sort
 pub sorts-kept : (ps : List Step) (c : ℕ) (s : Step) → unsliced-sort s ≡ unsliced-sort (step-at ps c)
     → (n : ℕ) → unsliced-sort (step-at (set ps c s) n) ≡ unsliced-sort (step-at ps n)
-sorts-kept ps c s e n = by (decLt c (length ps)) (ℕ-discrete n c)
-  where
-    by : Dec (c < length ps) → Dec (n ≡ c) → unsliced-sort (step-at (set ps c s) n) ≡ unsliced-sort (step-at ps n)
-    by (yes l) (yes i) = rw i (ap unsliced-sort (getD-set-same ps c s no-step l) ∙ e)
-    by (yes l) (no m) = ap unsliced-sort (getD-set-other ps c n s no-step m)
-    by (no l) d = ap (λ (x : List Step). unsliced-sort (step-at x n)) (set-out ps c s (omega arith))
+sorts-kept = reads-kept unsliced-sort
 
 -- The test for removal ------------------------------------------------------------------------------------------------------------------
 

@@ -1,12 +1,12 @@
 -- What the tables say of a record: how many children and entries it has, and how large its options are.
-use mathlib.Core.Path.{_≡_, subst, sym}
+use mathlib.Core.Path.{_≡_, ap, subst, sym}
 use Prim.Native.Nat.{ℕ, zero, suc, _≤_}
 use native.Mathlib.Omega.{arith}
 use native.Mathlib.Nat.{le-trans}
 use mathlib.Core.Bool.{Bool, true, false, _&&_, _||_, not}
 use mathlib.Core.List.{List, [], _∷_}
 use lib.Dec.{T, eqb, eqb→eq, leb, leb→le, lit≤}
-use lib.ListN.{length, getD}
+use lib.ListN.{length, getD, drop-of-length-le}
 use Rattle.plan.specs.declared.aexpr.AExpr.{AExpr}
 use Rattle.plan.specs.declared.ir.IR.{IR}
 use Rattle.plan.specs.Kinds.{aexpr-number, same-aexpr, ir-number, same-ir}
@@ -120,6 +120,49 @@ nine true true true true true true false h i t = absurd t
 nine true true true true true true true false i t = absurd t
 nine true true true true true true true true false t = absurd t
 
+-- what a step's row says of it
+record In-step-row (s : Step) (r : Step-row) : Type 0 where
+  a : s .a ≤ r .0
+  b : s .b ≤ r .1
+  c : s .c ≤ r .2
+  inputs : length (s .inputs) ≤ r .4
+  exprs : length (s .exprs) ≤ r .6
+  aggs : length (s .aggs) ≤ r .7
+
+in-step-row : (s : Step) (r : Step-row) (sink : Bool)
+    → T
+    (leb (s .a) (r .0) && leb (s .b) (r .1) && leb (s .c) (r .2) && leb (r .3) (length (s .inputs)) && leb (length (s .inputs)) (r .4)
+    && leb (r .5) (length (s .exprs)) && leb (length (s .exprs)) (r .6) && leb (length (s .aggs)) (r .7) && sink)
+    → In-step-row s r
+in-step-row s r sink t =
+    let y =
+    nine (leb (s .a) (r .0)) (leb (s .b) (r .1)) (leb (s .c) (r .2)) (leb (r .3) (length (s .inputs))) (leb (length (s .inputs)) (r .4))
+    (leb (r .5) (length (s .exprs))) (leb (length (s .exprs)) (r .6)) (leb (length (s .aggs)) (r .7)) sink t in
+    record {
+      a = leb→le (s .a) (r .0) (y .0);
+      b = leb→le (s .b) (r .1) (y .1);
+      c = leb→le (s .c) (r .2) (y .2);
+      inputs = leb→le (length (s .inputs)) (r .4) (y .4);
+      exprs = leb→le (length (s .exprs)) (r .6) (y .6);
+      aggs = leb→le (length (s .aggs)) (r .7) (y .7);
+    }
+
+own-step-row : (s : Step) → T (in-step-table s) → In-step-row s (step-row-of (ir-number (s .kind)))
+unfolding in-step-table
+own-step-row s t =
+    in-step-row s (step-row-of (ir-number (s .kind))) (not (same-ir (s .kind) IR.Sink && eqb (s .b) 0) || eqb (length (s .exprs)) 0) t
+
+-- a MergeSorted's leaves it no entries
+pub merge-has-no-entries : (s : Step) → s .kind ≡ IR.MergeSorted → T (in-step-table s) → (s .exprs ≡ []) × (s .aggs ≡ [])
+unfolding step-table
+merge-has-no-entries s e t =
+    let k = own-step-row s t in
+    let row = ap (λ (k : IR). step-row-of (ir-number k)) e in (
+      drop-of-length-le (s .exprs) {i = 0} (omega (arith, k .exprs, ap (λ (x : Step-row). x .6) row)),
+      drop-of-length-le (s .aggs) {i = 0} (omega (arith, k .aggs, ap (λ (x : Step-row). x .7) row)),
+    )
+
+-- what every row says
 pub record In-step-table (s : Step) : Type 0 where
   pub a : s .a ≤ 255
   pub b : s .b ≤ 255
@@ -128,27 +171,16 @@ pub record In-step-table (s : Step) : Type 0 where
   pub few-exprs : length (s .exprs) ≤ 8
   pub few-aggs : length (s .aggs) ≤ 8
 
-in-step-row : (s : Step) (r : Step-row) (sink : Bool) → T (small-step-row r)
-    → T
-    (leb (s .a) (r .0) && leb (s .b) (r .1) && leb (s .c) (r .2) && leb (r .3) (length (s .inputs)) && leb (length (s .inputs)) (r .4)
-    && leb (r .5) (length (s .exprs)) && leb (length (s .exprs)) (r .6) && leb (length (s .aggs)) (r .7) && sink)
-    → In-step-table s
-in-step-row s r sink small t =
-    let x = six (leb (r .0) 255) (leb (r .1) 255) (leb (r .2) 255) (leb (r .4) 8) (leb (r .6) 8) (leb (r .7) 8) small in
-    let y =
-    nine (leb (s .a) (r .0)) (leb (s .b) (r .1)) (leb (s .c) (r .2)) (leb (r .3) (length (s .inputs))) (leb (length (s .inputs)) (r .4))
-    (leb (r .5) (length (s .exprs))) (leb (length (s .exprs)) (r .6)) (leb (length (s .aggs)) (r .7)) sink t in
-    record {
-      a = le-trans (leb→le (s .a) (r .0) (y .0)) (leb→le (r .0) 255 (x .0));
-      b = le-trans (leb→le (s .b) (r .1) (y .1)) (leb→le (r .1) 255 (x .1));
-      c = le-trans (leb→le (s .c) (r .2) (y .2)) (leb→le (r .2) 255 (x .2));
-      few-inputs = le-trans (leb→le (length (s .inputs)) (r .4) (y .4)) (leb→le (r .4) 8 (x .3));
-      few-exprs = le-trans (leb→le (length (s .exprs)) (r .6) (y .6)) (leb→le (r .6) 8 (x .4));
-      few-aggs = le-trans (leb→le (length (s .aggs)) (r .7) (y .7)) (leb→le (r .7) 8 (x .5));
-    }
-
 pub of-step-table : (s : Step) → T (in-step-table s) → In-step-table s
-unfolding in-step-table
 of-step-table s t =
-    let k = ir-number (s .kind) in
-    in-step-row s (step-row-of k) (not (same-ir (s .kind) IR.Sink && eqb (s .b) 0) || eqb (length (s .exprs)) 0) (step-rows-small k) t
+    let k = own-step-row s t in
+    let r = step-row-of (ir-number (s .kind)) in
+    let x = six (leb (r .0) 255) (leb (r .1) 255) (leb (r .2) 255) (leb (r .4) 8) (leb (r .6) 8) (leb (r .7) 8) (step-rows-small (ir-number (s .kind))) in
+    record {
+      a = le-trans (k .a) (leb→le (r .0) 255 (x .0));
+      b = le-trans (k .b) (leb→le (r .1) 255 (x .1));
+      c = le-trans (k .c) (leb→le (r .2) 255 (x .2));
+      few-inputs = le-trans (k .inputs) (leb→le (r .4) 8 (x .3));
+      few-exprs = le-trans (k .exprs) (leb→le (r .6) 8 (x .4));
+      few-aggs = le-trans (k .aggs) (leb→le (r .7) 8 (x .5));
+    }

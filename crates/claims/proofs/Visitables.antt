@@ -1,0 +1,219 @@
+-- What the code of a visit leans on holds at every visit: an invariant of a run and of the places that it has still to visit.
+use mathlib.Core.Path.{_≡_, refl, ap, sym, _∙_, subst}
+use mathlib.Core.Logic.{inl, inr}
+use Prim.Native.Nat.{ℕ, _+_, _≤_, _<_}
+use native.Mathlib.Omega.{arith}
+use native.Mathlib.Decide.{decLt}
+use mathlib.Core.List.{List, [], _∷_, List·Memᴰ, List·Memᴰ·head, List·Memᴰ·tail, List·Memᴰ·not-nil, List·Memᴰ·cases-cons, Memᴰ·append-left, Memᴰ·append-right}
+use lib.Dec.{T}
+use lib.ListN.{length, getD, length-set}
+use Rattle.plan.specs.declared.ir.IR.{IR}
+use Rattle.plan.specs.Kinds.{same-ir}
+use Rattle.plan.specs.Lists.{if_then_else_, times}
+use Rattle.plan.specs.Sheet.{Expr, Step, Sheet, done, no-step, step-at, in-step-table}
+use Rattle.plan.specs.Faults.{named}
+use Rattle.plan.specs.Graph.{Edge, graph, sinks}
+use Rattle.plan.specs.Visit.{Run, simplify-ir-node-orders, unlink-node, one-visit, settled, looked-in, looks-of, ruling, imploded, with-implodes, with-input, no-edge, out-edge}
+use Rattle.plan.specs.Walks.{begin, down}
+use Rattle.claims.specs.WellFormed.{WellFormed}
+use Rattle.claims.specs.Visitable.{Visitable}
+use Rattle.claims.proofs.Walks.{two-ways, walk-keeps}
+use Rattle.claims.proofs.Booleans.{all-at}
+use Rattle.claims.proofs.Counts.{mem-at, mem-concat, only, times-of, stands-in}
+use Rattle.claims.proofs.Every.{Every, every-of, every-set}
+use Rattle.claims.proofs.StepTable.{has-inputs}
+use Rattle.claims.proofs.Tables.{merge-has-no-entries}
+use Rattle.claims.proofs.Plans.{Plan, root-there, input-there, plan-of}
+use Rattle.claims.proofs.Places.{graph-ordered}
+use Rattle.claims.proofs.Edges.{edge-at, three-ways, visit-edge}
+use Rattle.claims.proofs.Stays.{unsliced-sort, sort-kind, ruling-sort, reads-kept, goes-sort}
+use Rattle.claims.proofs.Removals.{removes}
+use Rattle.claims.proofs.Sizes.{few-places, steps-kept, edges-kept}
+use Rattle.claims.proofs.Rules.{ruled-by}
+use Rattle.claims.proofs.VisitLooks.{inside-of-step, imploded-start, looks-bounded-in}
+use Rattle.claims.proofs.RunLimits.{Within, end-length, end-within, visit-limits, within-visit, within-begin, within-half}
+use Rattle.claims.proofs.Printable.{Printable, printable-visit}
+use Rattle.claims.proofs.PrintableStart.{printable-begin}
+
+-- Steps ------------------------------------------------------------------------------------------------------------------------
+
+-- of a step: a sort without slice has an input, and a MergeSorted no expressions
+pub record Readable (s : Step) : Type 0 where
+  pub input : T (unsliced-sort s) → 1 ≤ length (s .inputs)
+  pub merges : s .kind ≡ IR.MergeSorted → (s .exprs ≡ []) × (s .aggs ≡ [])
+
+-- only a GroupBy's list takes Implodes
+merge-unimploded : (s : Step) (es : List Expr) → s .kind ≡ IR.MergeSorted → with-implodes s es .0 ≡ s .aggs
+unfolding with-implodes
+merge-unimploded s es e =
+    ap (λ (k : IR). let x : List ℕ × List Expr = if same-ir k IR.GroupBy then imploded (s .aggs) es else (s .aggs, es) in x .0) e
+
+-- a rule keeps a step's inputs
+inputs-ruled : (n : ℕ) (r : Run) → ruling n r .0 .inputs ≡ step-at (r .steps) n .inputs
+unfolding looked-in looks-of
+inputs-ruled n r = ruled-by n r .inputs
+
+readable-ruled : (n : ℕ) (r : Run) → Readable (step-at (r .steps) n) → Readable (ruling n r .0)
+unfolding looked-in looks-of
+readable-ruled n r k =
+    record {
+      input = λ t. omega (arith, ap length (inputs-ruled n r), k .input (subst T (ruling-sort n r) t));
+      merges =
+          λ e.
+          elim (ruled-by n r .lists) [
+            | inl (i, j, h) ↦
+                let merge = sym h ∙ e in
+                (i ∙ k .merges merge .0, j ∙ merge-unimploded (step-at (r .steps) n) (r .arena) merge ∙ k .merges merge .1)
+            | inr (i, j, _) ↦ (i, j)
+          ];
+    }
+
+readable-with-input : (slot input : ℕ) (s : Step) → Readable s → Readable (with-input slot input s)
+readable-with-input slot input s k = record { input = λ t. simp length-set (k .input t); merges = k .merges }
+
+module _ (n : ℕ) (r : Run) {r′ : Run} (e : simplify-ir-node-orders n r ≡ done r′) where
+  readable-visit : Every Readable no-step (r .steps) → Every Readable no-step (r′ .steps)
+  unfolding unlink-node settled
+  readable-visit k =
+      let c = out-edge n (r .edges) .consumer in
+      let Kept : Run → Type 0 = λ q. Every Readable no-step (q .steps) in
+      elim (two-ways n r e) [
+        | inl (_, i) ↦ subst Kept (sym i) (every-set Readable no-step (r .steps) c _ k (readable-with-input _ _ (step-at (r .steps) c) (k c)))
+        | inr (_, i) ↦ subst Kept (sym i) (every-set Readable no-step (r .steps) n _ k (readable-ruled n (one-visit r) (k n)))
+      ]
+
+  -- a step has as many inputs as it had
+  inputs-kept : (m : ℕ) → length (step-at (r′ .steps) m .inputs) ≡ length (step-at (r .steps) m .inputs)
+  unfolding unlink-node settled
+  inputs-kept m =
+      let count : Step → ℕ = λ s. length (s .inputs) in
+      let Kept : Run → Type 0 = λ q. count (step-at (q .steps) m) ≡ count (step-at (r .steps) m) in
+      elim (two-ways n r e) [
+        | inl (_, i) ↦ subst Kept (sym i) (reads-kept count (r .steps) (out-edge n (r .edges) .consumer) _ (simp length-set) m)
+        | inr (_, i) ↦ subst Kept (sym i) (reads-kept count (r .steps) n _ (ap length (inputs-ruled n (one-visit r))) m)
+      ]
+
+  -- an edge leads where it led
+  end-kept : (k : ℕ) → k < length (r .edges) → (edge-at k r′ .consumer ≡ edge-at k r .consumer) × (edge-at k r′ .slot ≡ edge-at k r .slot)
+  end-kept k h =
+      let d = edge-at k r in
+      let Led : Edge → Type 0 = λ x. (x .consumer ≡ d .consumer) × (x .slot ≡ d .slot) in
+      visit-edge Led n r e k h (λ input. three-ways n input Led d (λ _. (refl, refl)) (λ _ _. (refl, refl)) (λ _ _. (refl, refl))) (λ _. (refl, refl))
+
+-- The run ----------------------------------------------------------------------------------------------------------------------
+
+-- of a run that has still to visit ns, and makes no more than `most` visits
+pub record Going (most : ℕ) (ns : List ℕ) (r : Run) : Type 0 where
+  pub within : Within most (length ns) r
+  pub printable : Printable r
+  -- the places still to visit are steps, and so are those that the upward walk will visit
+  pub places : (m : ℕ) → List·Memᴰ m ns → m < length (r .steps)
+  pub back : (m : ℕ) → List·Memᴰ m (r .back) → m < length (r .steps)
+  -- on the way down `back` never has more than 288 places
+  pub few : length (r .back) + length ns ≤ most
+  pub readable : Every Readable no-step (r .steps)
+  -- every edge leads to a slot of its consumer
+  pub slots : (k : ℕ) → k < length (r .edges) → edge-at k r .slot < length (step-at (r .steps) (edge-at k r .consumer) .inputs)
+
+pub going-visit : (most n : ℕ) (ns : List ℕ) (r r′ : Run) → Going most (n ∷ ns) r → simplify-ir-node-orders n r ≡ done r′ → Going most ns r′
+going-visit most n ns r r′ k e =
+    record {
+      within = within-visit most n ns r r′ (k .within) e;
+      printable = printable-visit n r r′ (k .within .sound) (k .printable) e;
+      places = λ m i. omega (arith, k .places m (List·Memᴰ·tail i), steps-kept n r e);
+      back =
+          λ m i.
+          elim (removes n r r′ e) [
+            | inl (_, _, b) ↦ omega (arith, k .back m (subst (List·Memᴰ m) b i), steps-kept n r e)
+            | inr (_, b) ↦
+                elim (List·Memᴰ·cases-cons (subst (List·Memᴰ m) b i)) [
+                  | inl j ↦ omega (arith, k .places m (List·Memᴰ·head j), steps-kept n r e)
+                  | inr j ↦ omega (arith, k .back m j, steps-kept n r e)
+                ]
+          ];
+      few =
+          elim (removes n r r′ e) [
+            | inl (_, _, b) ↦ omega (arith, k .few, ap length b)
+            | inr (_, b) ↦ omega (arith, k .few, ap length b)
+          ];
+      readable = readable-visit n r e (k .readable);
+      slots =
+          λ j h.
+          let there : j < length (r .edges) = omega (arith, edges-kept n r e) in
+          let (c, s) = end-kept n r e j there in
+          rw (c, s) (omega (arith, k .slots j there, inputs-kept n r e (edge-at j r .consumer)));
+    }
+
+pub going-visitable : (most n : ℕ) (ns : List ℕ) (r : Run) → most ≤ 576 → Going most (n ∷ ns) r → Visitable n r
+going-visitable most n ns r few k =
+    let sound = k .within .sound in
+    let s = step-at (r .steps) n in
+    let limits = visit-limits r (k .within) n (omega arith) in
+    record {
+      step = k .places n (List·Memᴰ·head refl);
+      visits = omega (arith, k .within .visits);
+      exprs = λ q m. inside-of-step r sound n q (Memᴰ·append-left (s .aggs) m);
+      aggs = λ q m. inside-of-step r sound n q (Memᴰ·append-right (s .exprs) m);
+      imploded = imploded-start r sound n .inside;
+      room = omega (arith, end-within r (k .within) n, end-length r sound n);
+      between = omega (arith, limits .looks, looks-bounded-in r sound n .aggs .counted);
+      looks = limits .looks;
+      consumers = λ j h. has-inputs (r .steps) (edge-at j r .consumer) (omega (arith, k .slots j h));
+      slots = k .slots;
+      input = λ t. (k .readable n .input (goes-sort n r t .0), k .printable .steps n .inputs 0);
+      merges = k .readable n .merges;
+    }
+
+-- A well-formed sheet ------------------------------------------------------------------------------------------------------------
+
+-- a place is a root's or an input's
+place-there : (ps : List Step) → Plan ps → (m : ℕ) → List·Memᴰ m (graph ps .0) → m < length ps
+unfolding named
+place-there ps plan m i = by (decLt 0 (times m (sinks ps)))
+  where
+    by : Dec (0 < times m (sinks ps)) → m < length ps
+    by (yes h) = root-there ps plan m (stands-in m (sinks ps) h)
+    by (no h) =
+        let once : 1 ≤ times m (named ps) = omega (arith, times-of m (graph ps .0) i, graph-ordered ps plan .placed-all (only m)) in
+        let (n, _, j) = mem-concat (λ (s : Step). s .inputs) ps no-step m (stands-in m (named ps) once) in
+        input-there ps plan n m j
+
+module _ (sh : Sheet) (wf : WellFormed sh) where
+  readable-at-start : Every Readable no-step (sh .steps)
+  readable-at-start =
+      every-of Readable no-step (sh .steps) (record { input = λ t. absurd t; merges = λ _. (refl, refl) })
+      (λ n h.
+      let s = step-at (sh .steps) n in
+      record {
+        input = λ t. omega (arith, plan-of sh wf .one-input n (sort-kind s t));
+        merges = λ e. merge-has-no-entries s e (all-at in-step-table (sh .steps) no-step (wf .steps-in-table) n h);
+      })
+
+  pub going-begin : Going 288 (graph (sh .steps) .0) (begin sh)
+  unfolding begin
+  going-begin =
+      let plan = plan-of sh wf in
+      let edges = graph (sh .steps) .1 in
+      record {
+        within = within-begin sh wf;
+        printable = printable-begin sh wf;
+        places = place-there (sh .steps) plan;
+        back = λ m i. absurd (List·Memᴰ·not-nil i);
+        few = omega (arith, few-places sh wf);
+        readable = readable-at-start;
+        slots = λ k h. graph-ordered (sh .steps) plan .made (getD edges k no-edge) (mem-at edges k no-edge h) .0;
+      }
+
+  pub going-half : (half : Run) → down sh ≡ done half → Going 576 (half .back) half
+  unfolding down
+  going-half half e =
+      let k = walk-keeps (Going 288) (going-visit 288) (graph (sh .steps) .0) (begin sh) going-begin e in
+      record {
+        within = within-half sh wf half e;
+        printable = k .printable;
+        places = k .back;
+        back = k .back;
+        few = omega (arith, k .few);
+        readable = k .readable;
+        slots = k .slots;
+      }
