@@ -11,7 +11,7 @@ use lib.Seq.{ext-getD, getD-set-same, getD-set-other, take-nil, take-take, drop-
 use Rattle.plan.specs.declared.ir.IR.{IR}
 use Rattle.plan.specs.Kinds.{ir}
 use Rattle.plan.specs.Sheet.{Step, no-step, step-of, step-at}
-use Rattle.plan.specs.Visit.{with-input}
+use Rattle.plan.specs.Visit.{with-input, with-aggs}
 use Rattle.plan.specs.Stored.{table, stored-step, stored-steps, Step-formed}
 use Rattle.plan.specs.StoredLaws.{length-table, table-at}
 
@@ -118,6 +118,30 @@ input-set (k ∷ a ∷ b ∷ c ∷ n1 ∷ n2 ∷ n3 ∷ t) s v l h =
       drop-set-lt (n1 + n2) t s v (omega arith),
     )
 
+-- an entry of the n3 list
+agg-set : (ns : List ℕ) (k v : ℕ) → k < getD ns 6 0 → 7 ≤ length ns
+    → step-of (set ns (7 + (getD ns 4 0 + getD ns 5 0 + k)) v) ≡ with-aggs (set (step-of ns .aggs) k v) (step-of ns)
+unfolding step-of
+agg-set [] k v l h = absurd (not-suc-le-zero h)
+agg-set (_ ∷ []) k v l h = absurd (omega arith)
+agg-set (_ ∷ _ ∷ []) k v l h = absurd (omega arith)
+agg-set (_ ∷ _ ∷ _ ∷ []) k v l h = absurd (omega arith)
+agg-set (_ ∷ _ ∷ _ ∷ _ ∷ []) k v l h = absurd (omega arith)
+agg-set (_ ∷ _ ∷ _ ∷ _ ∷ _ ∷ []) k v l h = absurd (omega arith)
+agg-set (_ ∷ _ ∷ _ ∷ _ ∷ _ ∷ _ ∷ []) k v l h = absurd (omega arith)
+agg-set (_ ∷ _ ∷ _ ∷ _ ∷ n1 ∷ n2 ∷ n3 ∷ t) k v l h =
+    let seven : 7 + (n1 + n2 + k) ≡ suc (suc (suc (suc (suc (suc (suc (n1 + (n2 + k)))))))) = omega arith in
+    let apart : n1 + (n2 + k) ≡ n1 + n2 + k = omega arith in
+    rw (
+      seven,
+      take-set-le n1 t (n1 + (n2 + k)) v (omega arith),
+      drop-set-add n1 t (n2 + k) v,
+      take-set-le n2 (drop n1 t) (n2 + k) v (omega arith),
+      apart,
+      drop-set-add (n1 + n2) t k v,
+      take-set-lt n3 (drop (n1 + n2) t) k v l,
+    )
+
 -- One entry of a table ----------------------------------------------------------------------------------------------------------------
 
 pub table-set : {A : Type 0} (d : A) (f g : ℕ → A) (n i : ℕ) (x : A) → i < n → ((j : ℕ) → j < n → j ≢ i → g j ≡ f j) → g i ≡ x
@@ -164,6 +188,23 @@ module _ (bytes : List ℕ) (n i : ℕ) (room : n * 32 ≤ length bytes) (formed
       (ap step-of (own-bytes bytes i (7 + s) v)
       ∙ input-set (drop (i * 32) bytes) s v (rw (getD-drop (i * 32) bytes 4 0) l) (omega (arith, length-drop (i * 32) bytes))
       ∙ ap (with-input s v) (sym (table-at (stored-step bytes) n i no-step here)))
+
+  -- an entry of its n3 list, at byte p
+  pub agg-stored : (k v p : ℕ) → k < getD bytes (i * 32 + 6) 0 → p ≡ i * 32 + (7 + (getD bytes (i * 32 + 4) 0 + getD bytes (i * 32 + 5) 0 + k))
+      → stored-steps (set bytes p v) n
+      ≡ set (stored-steps bytes n) i (with-aggs (set (step-at (stored-steps bytes n) i .aggs) k v) (step-at (stored-steps bytes n) i))
+  unfolding stored-steps stored-step
+  agg-stored k v p l place =
+      let at : (m : ℕ) → getD (drop (i * 32) bytes) m 0 ≡ getD bytes (i * 32 + m) 0 = λ m. getD-drop (i * 32) bytes m 0 in
+      let q = 7 + (getD bytes (i * 32 + 4) 0 + getD bytes (i * 32 + 5) 0 + k) in
+      let own : 7 + (getD (drop (i * 32) bytes) 4 0 + getD (drop (i * 32) bytes) 5 0 + k) ≡ q = rw (at 4, at 5) in
+      rw place
+      (table-set no-step (stored-step bytes) (stored-step (set bytes (i * 32 + q) v)) n i _ here
+      (λ j l₁ e. other-step bytes i j q v (omega (arith, formed i here .n1, formed i here .n2, formed i here .n3)) e (formed j l₁))
+      (ap step-of (own-bytes bytes i q v)
+      ∙ ap (λ (m : ℕ). step-of (set (drop (i * 32) bytes) m v)) (sym own)
+      ∙ agg-set (drop (i * 32) bytes) k v (rw (at 6) l) (omega (arith, length-drop (i * 32) bytes))
+      ∙ ap (λ (s : Step). with-aggs (set (s .aggs) k v) s) (sym (table-at (stored-step bytes) n i no-step here))))
 
   -- its kind and options
   module _ (k a b c : ℕ) (kind : k < 19) where

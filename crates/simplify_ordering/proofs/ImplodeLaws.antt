@@ -1,16 +1,17 @@
 -- An appended Implode: what the code stores is the definition's arena with one record more.
 use mathlib.Core.Path.{_≡_, sym, ap, _∙_, subst}
-use Prim.Native.Nat.{ℕ, _+_, _*_, _≤_, _<_}
+use Prim.Native.Nat.{ℕ, zero, suc, _+_, _*_, _≤_, _<_}
 use native.Mathlib.Omega.{arith}
 use native.Mathlib.Decide.{ℕ-discrete}
-use mathlib.Core.Bool.{Bool, false}
-use mathlib.Core.List.{List, [], _∷_, _++_, List·Memᴰ, List·Memᴰ·eq-of-singleton}
+use mathlib.Core.Bool.{Bool, true, false}
+use mathlib.Core.List.{List, [], _∷_, _++_}
 use lib.ListN.{length, getD, set, length-set}
 use lib.Seq.{getD-set-same, getD-set-other}
 use Rattle.plan.specs.Sheet.{Expr}
 use Rattle.plan.specs.Stored.{stored-expr, arena-of, Expr-formed}
 use Rattle.plan.specs.StoredAppend.{with-implode, arena-appended, others-kept, implode-stored, old-formed, new-formed}
 use Rattle.plan.specs.Visit.{implode-over}
+use Rattle.expr.specs.State.{Falls, sorts}
 use Rattle.simplify_ordering.specs.Arena.{Arena-held}
 
 module _ (recs line : List ℕ) (off : List Bool) (n q : ℕ) (held : Arena-held recs line off n) (more : n < 128) (lower : q < n) where
@@ -30,20 +31,30 @@ module _ (recs line : List ℕ) (off : List Bool) (n q : ℕ) (held : Arena-held
   unfolding stored-at
   implode-law =
       subst (λ (p : ℕ). arena-of (stored-at p) (set line n n) (set off n false) (n + 1) ≡ arena-of recs line off n ++ (implode-over q ∷ [])) first
-      (arena-appended recs line off n q room (omega (arith, held .lines)) (omega (arith, held .switches)) (λ l h. held .formed l h .count) (held .below))
+      (arena-appended recs line off n q room (omega (arith, held .lines)) (omega (arith, held .switches)) (λ l h. held .based .formed l h .count) (held .below))
 
   formed-more : (l : ℕ) → l < n + 1 → Dec (l ≡ n) → Expr-formed (with-implode recs n q) l
   formed-more l h (yes e) = subst (Expr-formed (with-implode recs n q)) (sym e) (new-formed recs n q room)
-  formed-more l h (no e) = old-formed recs n q l (omega (arith, e)) (held .formed l (omega (arith, e)))
+  formed-more l h (no e) = old-formed recs n q l (omega (arith, e)) (held .based .formed l (omega (arith, e)))
 
-  earlier-more : (l c : ℕ) → l < n + 1 → Dec (l ≡ n) → List·Memᴰ c (stored-expr (with-implode recs n q) l .children) → c < l
-  earlier-more l c h (yes e) m =
-      let at-n : List·Memᴰ c (stored-expr (with-implode recs n q) n .children) = subst (λ (k : ℕ). List·Memᴰ c (stored-expr (with-implode recs n q) k .children)) e m in
-      let only = List·Memᴰ·eq-of-singleton (subst (λ (x : Expr). List·Memᴰ c (x .children)) (implode-stored recs n q room) at-n) in
-      omega (arith, only, e)
-  earlier-more l c h (no e) m =
+  falls-more : (l : ℕ) → l < n + 1 → Dec (l ≡ n) → Falls l (stored-expr (with-implode recs n q) l .children)
+  falls-more l h (yes e) =
+      rw (e, implode-stored recs n q room) (record { child = λ k j. by k j })
+    where
+      by : (k : ℕ) → k < 1 → getD (q ∷ []) k 0 < n
+      by zero j = lower
+      by (suc k) j = absurd (omega arith)
+  falls-more l h (no e) =
       let there : l < n = omega (arith, e) in
-      held .earlier l c there (subst (λ (x : Expr). List·Memᴰ c (x .children)) (others-kept recs n l q e (held .formed l there .count) .0) m)
+      subst (λ (x : Expr). Falls l (x .children)) (sym (others-kept recs n l q e (held .based .formed l there .count) .0)) (held .based .falls l there)
+
+  sorted-more : (l : ℕ) → l < n + 1 → Dec (l ≡ n) → sorts (stored-expr (with-implode recs n q) l .kind) ≡ true
+      → 0 < length (stored-expr (with-implode recs n q) l .children)
+  sorted-more l h (yes e) = rw (e, implode-stored recs n q room) (λ _. omega arith)
+  sorted-more l h (no e) =
+      let there : l < n = omega (arith, e) in
+      subst (λ (x : Expr). sorts (x .kind) ≡ true → 0 < length (x .children))
+      (sym (others-kept recs n l q e (held .based .formed l there .count) .0)) (held .based .sorted l there)
 
   below-more : (p : ℕ) → p < n + 1 → Dec (p ≡ n) → getD (set line n n) p 0 ≤ p
   below-more p h (yes e) = omega (arith, ap (λ (k : ℕ). getD (set line n n) k 0) e, getD-set-same line n n 0 (omega (arith, held .lines)))
@@ -55,11 +66,16 @@ module _ (recs line : List ℕ) (off : List Bool) (n q : ℕ) (held : Arena-held
   implode-held =
       subst (λ (p : ℕ). Arena-held (stored-at p) (set line n n) (set off n false) (n + 1)) first
       (record {
-        few = omega arith;
+        based =
+            record {
+              few = omega arith;
+              room = simp length-set (omega (arith, held .records));
+              formed = λ l h. formed-more l h (ℕ-discrete l n);
+              falls = λ l h. falls-more l h (ℕ-discrete l n);
+              sorted = λ l h. sorted-more l h (ℕ-discrete l n);
+            };
         records = simp length-set (held .records);
         lines = length-set line n n ∙ held .lines;
         switches = length-set off n false ∙ held .switches;
-        formed = λ l h. formed-more l h (ℕ-discrete l n);
-        earlier = λ l c h m. earlier-more l c h (ℕ-discrete l n) m;
         below = λ p h. below-more p h (ℕ-discrete p n);
       })

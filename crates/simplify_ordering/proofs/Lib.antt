@@ -3,3 +3,4 @@ pub mod StoreLaws
 pub mod UnlinkLaws
 pub mod RuleLaws
 pub mod ImplodeLaws
+pub mod StepLaws

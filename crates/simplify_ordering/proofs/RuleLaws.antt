@@ -10,13 +10,7 @@ use Rattle.plan.specs.Kinds.{join-type, same-join-type}
 use Rattle.plan.specs.Lists.{if_then_else_}
 use Rattle.plan.specs.Sheet.{Step}
 use Rattle.plan.specs.Visit.{Around, Observable, Loosened, rule, merge-sorted-all, loosen, unordered-union}
-use Rattle.simplify_ordering.specs.declared.rules.Options.{Options}
-use Rattle.simplify_ordering.specs.declared.rules.Ruled.{Ruled}
-use Rattle.simplify_ordering.specs.Held.{step-of, ruled-of, ruled-step}
-
--- what the rules read of a step
-abbrev pub options-of : Step → Options
-options-of s = record { kind = s .kind; a = s .a; b = s .b; c = s .c; n2 = length (s .exprs) }
+use Rattle.simplify_ordering.specs.Held.{step-of, options-of, ruled-of, ruled-step}
 
 module _ (s : Step) (e : Around) (o : Observable) where
   -- a choice between two steps with their edges

@@ -5,7 +5,7 @@ use mathlib.Core.Bool.{Bool, true, false, _&&_, _||_}
 use mathlib.Core.List.{List, [], map}
 use mathlib.Core.Option.{Option, none, some}
 use lib.Dec.{eqb}
-use lib.ListN.{length, getD, set, replicate}
+use lib.ListN.{length, getD, set, take, replicate}
 use Rattle.plan.specs.Lists.{if_then_else_}
 use Rattle.plan.specs.Sheet.{Step, step-at}
 use Rattle.plan.specs.Graph.{Edge}
@@ -16,6 +16,7 @@ use Rattle.simplify_ordering.specs.declared.around.Around.{Around}
 use Rattle.simplify_ordering.specs.declared.rules.Observable.{Observable}
 use Rattle.simplify_ordering.specs.declared.rules.Options.{Options}
 use Rattle.simplify_ordering.specs.declared.rules.Ruled.{Ruled}
+use Rattle.simplify_ordering.specs.declared.steps.Entries.{Entries}
 
 -- Edges: consumer and slot never change; an edge into a removed sort has the producer 255, which is no step's ------------------
 
@@ -46,6 +47,10 @@ observable-of o = record { exprs = o .exprs; aggs = o .aggs; internal = o .inter
 abbrev pub step-of : Options → Step
 step-of s = record { kind = s .kind; a = s .a; b = s .b; c = s .c; inputs = []; exprs = replicate (s .n2) 0; aggs = [] }
 
+-- what the rules read of a step
+abbrev pub options-of : Step → Options
+options-of s = record { kind = s .kind; a = s .a; b = s .b; c = s .c; n2 = length (s .exprs) }
+
 abbrev pub ruled-of : Step × Loosened → Ruled
 ruled-of (s, l) = record { kind = s .kind; a = s .a; b = s .b; c = s .c; in0 = l .in₀; in1 = l .in₁; out = l .out }
 
@@ -74,6 +79,12 @@ pub record Steps-held (bytes : List ℕ) (n : ℕ) : Type 0 where
   pub few : n ≤ 32
   pub size : length bytes ≡ 1024
   pub formed : (i : ℕ) → i < n → Step-formed bytes i
+
+-- a step's n2 or n3 list, out of the bytes: the first `count` of the nodes
+pub record Is-list (xs : List ℕ) (e : Entries) : Type 0 where
+  pub is : take (e .count) (e .nodes) ≡ xs
+  pub few : e .count ≤ 8
+  pub room : length (e .nodes) ≡ 8
 
 -- a step with the kind and options that a rule gave it
 abbrev pub ruled-step : Step → Ruled → Step
