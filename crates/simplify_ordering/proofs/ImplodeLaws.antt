@@ -1,18 +1,24 @@
 -- An appended Implode: what the code stores is the definition's arena with one record more.
-use mathlib.Core.Path.{_≡_, sym, ap, _∙_, subst}
+use mathlib.Core.Path.{_≡_, refl, sym, ap, _∙_, subst}
 use Prim.Native.Nat.{ℕ, zero, suc, _+_, _*_, _≤_, _<_}
 use native.Mathlib.Omega.{arith}
 use native.Mathlib.Decide.{ℕ-discrete}
 use mathlib.Core.Bool.{Bool, true, false}
 use mathlib.Core.List.{List, [], _∷_, _++_}
-use lib.ListN.{length, getD, set, length-set}
-use lib.Seq.{getD-set-same, getD-set-other}
-use Rattle.plan.specs.Sheet.{Expr}
-use Rattle.plan.specs.Stored.{stored-expr, arena-of, Expr-formed}
+use lib.Dec.{eqb}
+use lib.ListN.{length, getD, set, length-set, length-append}
+use lib.Seq.{getD-set-same, getD-set-other, set-getD}
+use Rattle.plan.specs.Lists.{if_then_else_}
+use Rattle.plan.specs.Sheet.{Expr, Step, no-expr, no-step, expr-at, step-at}
+use Rattle.plan.specs.Look.{switched-off}
+use Rattle.plan.specs.Stored.{stored-expr, held-expr, arena-of, Expr-formed}
+use Rattle.plan.specs.StoredLaws.{length-table, table-at}
 use Rattle.plan.specs.StoredAppend.{with-implode, arena-appended, others-kept, implode-stored, old-formed, new-formed}
-use Rattle.plan.specs.Visit.{implode-over}
+use Rattle.plan.specs.Visit.{implode, implode-over, with-aggs}
 use Rattle.expr.specs.State.{Falls, sorts}
+use Rattle.expr.proofs.Records.{stored}
 use Rattle.simplify_ordering.specs.Arena.{Arena-held}
+use Rattle.simplify_ordering.specs.Held.{with-agg}
 
 module _ (recs line : List ℕ) (off : List Bool) (n q : ℕ) (held : Arena-held recs line off n) (more : n < 128) (lower : q < n) where
   -- the six bytes, with the first at p
@@ -79,3 +85,53 @@ module _ (recs line : List ℕ) (off : List Bool) (n q : ℕ) (held : Arena-held
         switches = length-set off n false ∙ held .switches;
         below = λ p h. below-more p h (ℕ-discrete p n);
       })
+
+-- An agg that is a scalar, and one that is not -------------------------------------------------------------------------------------
+
+module _ (recs line : List ℕ) (off : List Bool) (n q : ℕ) (held : Arena-held recs line off n) (lower : q < n) where
+  pub base-below : getD line q 0 < 128
+  base-below = omega (arith, held .below q lower, held .based .few)
+
+  pub scalar-law : eqb (getD recs (getD line q 0 * 16 + 1) 0) 1 ≡ expr-at (arena-of recs line off n) q .scalar
+  unfolding arena-of held-expr
+  scalar-law =
+      let l = getD line q 0 in
+      let own : l < n = omega (arith, held .below q lower) in
+      let is = stored recs l (omega (arith, base-below, held .records)) (held .based .formed l own) in
+      ap (λ (e : Expr). e .scalar) (sym is) ∙ by (getD off q false) (stored-expr recs l)
+      ∙ sym (ap (λ (e : Expr). e .scalar) (table-at (held-expr recs line off) n q no-expr lower))
+    where
+      by : (b : Bool) (e : Expr) → e .scalar ≡ (if b then switched-off e else e) .scalar
+      by true e = refl
+      by false e = refl
+
+module _ (q : ℕ) (es : List Expr) where
+  pub implode-scalar : expr-at es q .scalar ≡ true → implode q es ≡ (q, es)
+  unfolding implode
+  implode-scalar h = rw h
+
+  pub implode-other : expr-at es q .scalar ≡ false → implode q es ≡ (length es, es ++ (implode-over q ∷ []))
+  unfolding implode
+  implode-other h = rw h
+
+pub length-arena : (recs line : List ℕ) (off : List Bool) (n : ℕ) → length (arena-of recs line off n) ≡ n
+unfolding arena-of
+length-arena recs line off n = length-table (held-expr recs line off) 0 n
+
+pub agg-same : (i k q : ℕ) (ps : List Step) → q ≡ getD (step-at ps i .aggs) k 0 → ps ≡ with-agg i k q ps
+agg-same i k q ps e =
+    let s : Step = step-at ps i in
+    sym (ap (λ (qs : List ℕ). set ps i (with-aggs qs s)) (ap (set (s .aggs) k) e ∙ set-getD (s .aggs) k 0) ∙ set-getD ps i no-step)
+
+-- b says whether agg q, entry k of step i, is a scalar
+module _ (q : ℕ) (es : List Expr) (b : Bool) (is : b ≡ expr-at es q .scalar) (i k : ℕ) (ps : List Step) where
+  pub stays : b ≡ true → q ≡ getD (step-at ps i .aggs) k 0 → (es ≡ implode q es .1) × (ps ≡ with-agg i k (implode q es .0) ps)
+  stays t e = rw (implode-scalar q es (sym is ∙ t)) (refl, agg-same i k q ps e)
+
+  module _ (f : b ≡ false) where
+    pub appended : {es′ : List Expr} {ps′ : List Step} → es′ ≡ es ++ (implode-over q ∷ []) → ps′ ≡ with-agg i k (length es) ps
+        → (es′ ≡ implode q es .1) × (ps′ ≡ with-agg i k (implode q es .0) ps)
+    appended p r = rw (implode-other q es (sym is ∙ f)) (p, r)
+
+    pub has-room : length (implode q es .1) ≤ 128 → length es < 128
+    has-room h = omega (arith, rw (implode-other q es (sym is ∙ f), length-append es (implode-over q ∷ [])) at h)

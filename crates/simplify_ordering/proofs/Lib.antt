@@ -4,3 +4,4 @@ pub mod UnlinkLaws
 pub mod RuleLaws
 pub mod ImplodeLaws
 pub mod StepLaws
+pub mod ImplodesLaws

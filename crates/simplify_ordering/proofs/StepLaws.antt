@@ -4,12 +4,13 @@ use Prim.Native.Nat.{ℕ, suc, _+_, _*_, _≤_, _<_}
 use native.Mathlib.Omega.{arith}
 use mathlib.Core.List.{List, [], _∷_, _++_}
 use lib.ListN.{length, getD, take, drop, length-drop}
-use lib.Seq.{drop-cons, drop-drop, take-append-le, length-take-le, getD-drop}
+use lib.Seq.{drop-cons, drop-drop, take-append-le, length-take-le, getD-take, getD-drop}
 use Rattle.plan.specs.Kinds.{ir}
 use Rattle.plan.specs.Sheet.{Step, no-step, step-at, step-of}
 use Rattle.plan.specs.Stored.{stored-step, stored-steps}
-use Rattle.plan.specs.StoredLaws.{table-at}
-use Rattle.simplify_ordering.specs.Held.{Steps-held}
+use Rattle.plan.specs.StoredLaws.{length-table, table-at}
+use Rattle.simplify_ordering.specs.declared.steps.Entries.{Entries}
+use Rattle.simplify_ordering.specs.Held.{Steps-held, Is-list}
 
 -- Eight bytes ----------------------------------------------------------------------------------------------------------------------
 
@@ -32,6 +33,10 @@ module _ (l : List ℕ) (b : ℕ) (room : b + 8 ≤ length l) where
 
   pub eight-taken : (count : ℕ) → count ≤ 8 → take count eight ≡ take count (drop b l)
   eight-taken count h = rw begins (sym (take-append-le count eight (drop (b + 8) l) h))
+
+pub length-steps : (bytes : List ℕ) (n : ℕ) → length (stored-steps bytes n) ≡ n
+unfolding stored-steps
+length-steps bytes n = length-table (stored-step bytes) 0 n
 
 -- A step's numbers -----------------------------------------------------------------------------------------------------------------
 
@@ -92,3 +97,12 @@ module _ (bytes : List ℕ) (n i : ℕ) (held : Steps-held bytes n) (here : i < 
   its-n3 =
       ap length its-aggs
       ∙ length-part (at 4 + at 5) (at 6) (omega (arith, held .formed i here .n1, held .formed i here .n2, held .formed i here .n3))
+
+-- A list out of the bytes ----------------------------------------------------------------------------------------------------------
+
+module _ (xs : List ℕ) (e : Entries) (l : Is-list xs e) where
+  pub list-length : length xs ≡ e .count
+  list-length = ap length (sym (l .is)) ∙ length-take-le (e .count) (e .nodes) (omega (arith, l .few, l .room))
+
+  pub list-at : (k : ℕ) → k < e .count → getD (e .nodes) k 0 ≡ getD xs k 0
+  list-at k h = sym (getD-take (e .count) (e .nodes) k 0 h) ∙ ap (λ (x : List ℕ). getD x k 0) (l .is)

@@ -9,8 +9,8 @@ use Rattle.plan.specs.Kinds.{ir, ir-number}
 use Rattle.plan.specs.KindNumbers.{ir-back}
 use Rattle.plan.specs.Sheet.{Step, step-at}
 use Rattle.plan.specs.Stored.{stored-steps}
-use Rattle.plan.specs.StoredChanges.{formed-still, input-stored, options-stored, formed-options}
-use Rattle.plan.specs.Visit.{with-input}
+use Rattle.plan.specs.StoredChanges.{formed-still, input-stored, agg-stored, options-stored, formed-options}
+use Rattle.plan.specs.Visit.{with-input, with-aggs}
 use Rattle.simplify_ordering.specs.declared.rules.Ruled.{Ruled}
 use Rattle.simplify_ordering.specs.Held.{ruled-step, Steps-held}
 
@@ -55,6 +55,25 @@ module _ (bytes : List ℕ) (n i : ℕ) (held : Steps-held bytes n) (here : i < 
               formed-still bytes i j (7 + s) v (omega arith) (λ e. omega (arith, e)) (λ e. omega (arith, e)) (λ e. omega (arith, e)) (λ _ e. absurd (omega (arith, e)))
               (omega (arith, held .few, held .size)) (held .formed j q);
         }
+
+  module _ (k v p : ℕ) (l : k < getD bytes (i * 32 + 6) 0) (place : p ≡ i * 32 + (7 + (getD bytes (i * 32 + 4) 0 + getD bytes (i * 32 + 5) 0 + k))) where
+    pub agg-law : stored-steps (set bytes p v) n
+        ≡ set (stored-steps bytes n) i (with-aggs (set (step-at (stored-steps bytes n) i .aggs) k v) (step-at (stored-steps bytes n) i))
+    agg-law = agg-stored bytes n i room (held .formed) here k v p l place
+
+    pub agg-held : Steps-held (set bytes p v) n
+    agg-held =
+        let f = held .formed i here in
+        let q = 7 + (getD bytes (i * 32 + 4) 0 + getD bytes (i * 32 + 5) 0 + k) in
+        rw place
+        (record {
+          few = held .few;
+          size = length-set bytes (i * 32 + q) v ∙ held .size;
+          formed =
+              λ j h.
+              formed-still bytes i j q v (omega (arith, f .n1, f .n2, f .n3)) (λ e. omega (arith, e)) (λ e. omega (arith, e)) (λ e. omega (arith, e)) (λ _ e. absurd (omega (arith, e)))
+              (omega (arith, held .few, held .size, f .n1, f .n2, f .n3)) (held .formed j h);
+        })
 
   module _ (r : Ruled) (k : ℕ) (kind : k ≡ ir-number (r .kind)) (small : k < 19) where
     first : i * 32 + 0 ≡ i * 32

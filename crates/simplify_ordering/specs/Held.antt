@@ -91,6 +91,10 @@ abbrev pub ruled-step : Step → Ruled → Step
 ruled-step s r =
     record { kind = r .kind; a = r .a; b = r .b; c = r .c; inputs = s .inputs; exprs = s .exprs; aggs = s .aggs }
 
+-- the steps, with another entry k in the n3 list of step i
+abbrev pub with-agg : ℕ → ℕ → ℕ → List Step → List Step
+with-agg i k agg ps = set ps i (Visit.with-aggs (set (step-at ps i .aggs) k agg) (step-at ps i))
+
 -- Edges and steps together ----------------------------------------------------------------------------------------------------------
 
 -- every edge leads to a slot of a step
