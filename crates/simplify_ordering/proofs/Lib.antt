@@ -5,3 +5,4 @@ pub mod RuleLaws
 pub mod ImplodeLaws
 pub mod StepLaws
 pub mod ImplodesLaws
+pub mod LookLaws

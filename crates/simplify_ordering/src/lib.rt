@@ -2,6 +2,7 @@
 pub mod around; // around.rt: a step's edges as a visit finds them
 pub mod implode; // implode.rt: the Implodes that GroupBy appends
 pub mod joins; // joins.rt: the rule of a Join
+pub mod looks; // looks.rt: the looks of a visit
 pub mod loosen; // loosen.rt: the edges that a rule loosens
 pub mod rules; // rules.rt: what a visit makes of a step and its edges
 pub mod steps; // steps.rt: what a visit reads of a stored step

@@ -1,0 +1,197 @@
+-- The two lists of a visit: what their looks ask of the arena, and that they leave it as the definition's.
+use mathlib.Core.Path.{_≡_, refl, sym, ap, _∙_, subst}
+use Prim.Native.Nat.{ℕ, _≤_, _<_, _^_}
+use native.Mathlib.Omega.{arith}
+use mathlib.Core.Logic.{_≢_}
+use mathlib.Core.Bool.{Bool, false}
+use mathlib.Core.List.{List, List·Memᴰ}
+use lib.ListN.{length, getD, set, take, length-replicate}
+use lib.Seq.{set-getD, getD-set-same}
+use borrow.Author.Tests.{eq-eqb, ne-eqb}
+use Rattle.plan.specs.declared.orders.ObservableOrders.{ObservableOrders}
+use Rattle.plan.specs.Kinds.{ir-number}
+use Rattle.plan.specs.Sheet.{Expr, Step, no-step, step-at}
+use Rattle.plan.specs.Look.{simplify-projected-exprs}
+use Rattle.plan.specs.Look as plan
+use Rattle.plan.specs.Stored.{arena-of, stored-steps}
+use Rattle.plan.specs.Visit.{expr-order-simplifier, imploded, with-implodes, with-aggs, allow-deordering-top, looks-of}
+use Rattle.plan.specs.Visit as Visit
+use Rattle.claims.proofs.Counts.{mem-at}
+use Rattle.expr.specs.declared.look.Eos.{Eos}
+use Rattle.expr.specs.declared.look.Tally.{Tally}
+use Rattle.expr.specs.Contract.{looked-of}
+use Rattle.expr.specs.Projected.{Started, ListAsks, ListGives}
+use Rattle.expr.specs.State.{eos-of, Falls, Formed}
+use Rattle.simplify_ordering.specs.declared.looks.Looked.{Looked}
+use Rattle.simplify_ordering.specs.declared.steps.Entries.{Entries}
+use Rattle.simplify_ordering.specs.Arena.{Arena-held}
+use Rattle.simplify_ordering.specs.Held.{step-of, options-of, observable-of, Steps-held, Is-list}
+use Rattle.simplify_ordering.specs.Looks.{first, second, Lists-ask, Lists-give, Listed, Looks-give}
+use Rattle.simplify_ordering.proofs.ImplodeLaws.{length-arena}
+
+falls-below : (n : ℕ) (xs : List ℕ) → ((q : ℕ) → List·Memᴰ q xs → q < n) → Falls n xs
+falls-below n xs there = record { child = λ k h. there (getD xs k 0) (mem-at xs k 0 h) }
+
+module _ (recs line : List ℕ) (off : List Bool) (n : ℕ) (tally : Tally) (xs ys : List ℕ) (exprs aggs : Entries) (allow : Bool)
+    (ask : Lists-ask recs line off n (tally .looks) xs ys exprs aggs allow) (s : Eos) (started : Started line off tally s) where
+  abbrev es : List Expr
+  es = arena-of recs line off n
+
+  start-formed : Formed n s
+  start-formed =
+      record {
+        sized =
+            record {
+              line = ap length (started .line-is) ∙ ask .arena .lines;
+              off = ap length (started .off-is) ∙ ask .arena .switches;
+              cache = started .cache-size;
+            };
+        below = λ q h. rw (started .line-is) (ask .arena .below q h);
+      }
+
+  pub first-asks : ListAsks recs n s (exprs .nodes) (exprs .count) allow
+  first-asks =
+      record {
+        based = ask .arena .based;
+        formed = start-formed;
+        few = ask .exprs-are .few;
+        room = ask .exprs-are .room;
+        falls = rw (ask .exprs-are .is) (falls-below n xs (ask .exprs-there));
+        fits = rw (ask .exprs-are .is, started .is recs n) (ask .between);
+      }
+
+  module _ (b : Eos) (g : ListGives recs n s (exprs .nodes) (exprs .count) allow b) where
+    between-is : looked-of recs n b ≡ first xs allow es (tally .looks)
+    between-is = rw (ask .exprs-are .is, started .is recs n) at (g .is)
+
+    between-formed : Formed n b
+    between-formed =
+        record {
+          sized = g .kept .sized (start-formed .sized);
+          below = λ q h. omega (arith, g .kept .lower q, start-formed .below q h);
+        }
+
+    between-eos : eos-of recs n b ≡ first xs allow es (tally .looks) .1
+    between-eos = ap (λ (p : ObservableOrders × plan.Eos). p .1) between-is
+
+    pub second-asks : ListAsks recs n b (aggs .nodes) (aggs .count) false
+    second-asks =
+        record {
+          based = ask .arena .based;
+          formed = between-formed;
+          few = ask .aggs-are .few;
+          room = ask .aggs-are .room;
+          falls = rw (ask .aggs-are .is) (falls-below n ys (ask .aggs-there));
+          fits = rw (ask .aggs-are .is, between-eos) (ask .end);
+        }
+
+    module _ (t : Eos) (h : ListGives recs n b (aggs .nodes) (aggs .count) false t) where
+      end-is : looked-of recs n t ≡ second xs ys allow es (tally .looks)
+      end-is = rw (ask .aggs-are .is, between-eos) at (h .is)
+
+      end-eos : eos-of recs n t ≡ second xs ys allow es (tally .looks) .1
+      end-eos = ap (λ (p : ObservableOrders × plan.Eos). p .1) end-is
+
+      pub lists-given : Lists-give recs line off n tally xs ys allow (t .line) (t .off)
+          (record { observable = record { exprs = b .answer; aggs = t .answer; internal = t .observed }; tally = t .tally; exprs = n })
+      unfolding eos-of
+      lists-given =
+          record {
+            arena = ap (λ (x : plan.Eos). x .expr-arena) end-eos;
+            held =
+                record {
+                  based = ask .arena .based;
+                  records = ask .arena .records;
+                  lines = h .kept .sized (between-formed .sized) .line;
+                  switches = h .kept .sized (between-formed .sized) .off;
+                  below = λ q l. omega (arith, h .kept .lower q, between-formed .below q l);
+                };
+            exprs = ap (λ (p : ObservableOrders × plan.Eos). p .0) between-is;
+            aggs = ap (λ (p : ObservableOrders × plan.Eos). p .0) end-is;
+            internal = ap (λ (x : plan.Eos). x .internally-observed) end-eos;
+            looks = ap (λ (x : plan.Eos). x .looks) end-eos;
+            visits = h .kept .visits ∙ g .kept .visits ∙ ap (λ (x : Tally). x .visits) (started .tally-is);
+            exprs-kept = refl;
+          }
+
+-- The lists of step i, the Implodes appended ---------------------------------------------------------------------------------------------
+
+-- k is the number of the step's kind
+module _ (s : Step) (es : List Expr) (k : ℕ) (kind : k ≡ ir-number (s .kind)) where
+  pub grouped : k ≡ 7 → with-implodes s es ≡ imploded (s .aggs) es
+  unfolding with-implodes
+  grouped h = rw (eq-eqb (ir-number (s .kind)) 7 (sym kind ∙ h))
+
+  pub ungrouped : k ≢ 7 → with-implodes s es ≡ (s .aggs, es)
+  unfolding with-implodes
+  ungrouped h = rw (ne-eqb (ir-number (s .kind)) 7 (λ e. h (kind ∙ e)))
+
+pub same-step : (ps : List Step) (i : ℕ) → ps ≡ set ps i (with-aggs (step-at ps i .aggs) (step-at ps i))
+same-step ps i = sym (set-getD ps i no-step)
+
+pub allow-reads : (s : Step) (e : Visit.Around) → allow-deordering-top (step-of (options-of s)) e ≡ allow-deordering-top s e
+unfolding allow-deordering-top
+allow-reads s e = rw length-replicate
+
+-- there is room for the Implodes
+pub start-room : (s : Step) (e : Visit.Around) (es : List Expr) (looks : ℕ) → Listed (looks-of s e es looks) → length (with-implodes s es .1) ≤ 128
+unfolding looks-of
+start-room s e es looks l = l .room
+
+-- es is the arena before the Implodes, ps are the steps; with them they are those of recs, line, off and of steps
+module _ (ps : List Step) (i n : ℕ) (e : Visit.Around) (es : List Expr) (tally : Tally) (steps recs line : List ℕ) (off : List Bool) (m : ℕ)
+    (here : i < length ps) (listed : Listed (looks-of (step-at ps i) e es (tally .looks)))
+    (arena-is : arena-of recs line off m ≡ with-implodes (step-at ps i) es .1)
+    (steps-are : stored-steps steps n ≡ set ps i (with-aggs (with-implodes (step-at ps i) es .0) (step-at ps i)))
+    (held : Arena-held recs line off m) (steps-held : Steps-held steps n)
+    (exprs aggs : Entries) (exprs-are : Is-list (step-at (stored-steps steps n) i .exprs) exprs) (aggs-are : Is-list (step-at (stored-steps steps n) i .aggs) aggs)
+    (allow : Bool) (allow-is : allow ≡ allow-deordering-top (step-of (options-of (step-at ps i))) e) where
+  abbrev s : Step
+  s = step-at ps i
+
+  abbrev l : Visit.Looked
+  l = looks-of s e es (tally .looks)
+
+  step-now : step-at (stored-steps steps n) i ≡ with-aggs (with-implodes s es .0) s
+  step-now = ap (λ (x : List Step). step-at x i) steps-are ∙ getD-set-same ps i (with-aggs (with-implodes s es .0) s) no-step here
+
+  xs-are : take (exprs .count) (exprs .nodes) ≡ s .exprs
+  xs-are = exprs-are .is ∙ ap (λ (x : Step). x .exprs) step-now
+
+  ys-are : take (aggs .count) (aggs .nodes) ≡ with-implodes s es .0
+  ys-are = aggs-are .is ∙ ap (λ (x : Step). x .aggs) step-now
+
+  allowed : allow ≡ allow-deordering-top s e
+  allowed = allow-is ∙ allow-reads s e
+
+  length-now : length (with-implodes s es .1) ≡ m
+  length-now = ap length (sym arena-is) ∙ length-arena recs line off m
+
+  pub lists-asked : Lists-ask recs line off m (tally .looks) (take (exprs .count) (exprs .nodes)) (take (aggs .count) (aggs .nodes)) exprs aggs allow
+  unfolding looks-of
+  lists-asked =
+      rw (xs-are, ys-are, allowed)
+      (record {
+        arena = held;
+        exprs-are = record { is = xs-are; few = exprs-are .few; room = exprs-are .room };
+        aggs-are = record { is = ys-are; few = aggs-are .few; room = aggs-are .room };
+        exprs-there = λ q k. omega (arith, listed .exprs q k, length-now);
+        aggs-there = λ q k. omega (arith, listed .aggs q k, length-now);
+        between = rw arena-is (listed .between);
+        end = rw arena-is (listed .end);
+      })
+
+  pub looks-given : (line′ : List ℕ) (off′ : List Bool) (r : Looked)
+      → Lists-give recs line off m tally (take (exprs .count) (exprs .nodes)) (take (aggs .count) (aggs .nodes)) allow line′ off′ r
+      → Looks-give l i n ps steps recs line′ off′ r
+  unfolding looks-of
+  looks-given line′ off′ r h₀ =
+      let h = rw (xs-are, ys-are, allowed) at h₀ in
+      record {
+        arena = ap (arena-of recs line′ off′) (h .exprs-kept) ∙ (rw arena-is at (h .arena));
+        held = subst (Arena-held recs line′ off′) (sym (h .exprs-kept)) (h .held);
+        steps-are = steps-are;
+        steps-held = steps-held;
+        observable = rw (rw arena-is at (h .exprs), rw arena-is at (h .aggs), rw arena-is at (h .internal));
+        looks = rw arena-is at (h .looks);
+      }

@@ -1,0 +1,69 @@
+use Rattle.simplify_ordering.proofs.LookLaws.{start-room, lists-asked, looks-given}
+use Rattle.simplify_ordering.proofs.StepLaws.{length-steps}
+use Rattle.simplify_ordering.specs.Held.{around-of, step-of}
+use Rattle.simplify_ordering.specs.declared.rules.Options.{Options}
+use Rattle.plan.specs.Visit.{allow-deordering-top, looks-of}
+use Rattle.plan.specs.Stored.{arena-of, stored-steps}
+use Rattle.plan.specs.Sheet.{step-at}
+use lib.ListN.{length}
+use Prim.Native.Nat.{_<_}
+use mathlib.Core.Path.{_≡_, sym, _∙_, ap, refl}
+use native.Mathlib.Omega.{arith}
+use denote.Ref.{now}
+use borrow.Author.Needs.{needs}
+use Rattle.simplify_ordering.proofs.looks.looks_of.Statement.{statement}
+use Rattle.simplify_ordering.proofs.looks.looks_of.Tie as tie
+use Rattle.simplify_ordering.proofs.looks.looks_of.Reads as reads
+use Rattle.simplify_ordering.proofs.looks.looks_of.Lts as lts
+use Rattle.simplify_ordering.proofs.looks.look_at_lists.Reads as look-at-lists-reads
+use Rattle.simplify_ordering.proofs.looks.with_implodes.Reads as with-implodes-reads
+use Rattle.simplify_ordering.proofs.rules.allow_deordering_top.Reads as allow-deordering-top-reads
+use Rattle.simplify_ordering.proofs.steps.aggs_of.Reads as aggs-of-reads
+use Rattle.simplify_ordering.proofs.steps.exprs_of.Reads as exprs-of-reads
+
+-- src/looks.rt:116:9
+with-implodes-requires : tie.Need-with-implodes-requires
+with-implodes-requires c κs =
+    let a = c .before .before .before .before .args in
+    (c .before .before .before .before .pre .0, ((c .before .before .before .before .pre .1 .0 .0, ap (λ (o : Options). o .kind) (c .before .before .before .before .pre .1 .0 .1)), (c .before .before .before .before .pre .1 .1 .0, start-room (step-at (stored-steps (now (a .steps)) (a .n-steps)) (a .i)) (around-of (a .e)) (arena-of (now (a .recs)) (now (a .line)) (now (a .off)) (a .n)) (a .tally .looks) (c .before .before .before .before .pre .1 .1 .1))))
+
+-- src/looks.rt:117:9
+exprs-of-requires : tie.Need-exprs-of-requires
+exprs-of-requires c κs = search needs
+
+-- src/looks.rt:118:9
+aggs-of-requires : tie.Need-aggs-of-requires
+aggs-of-requires c κs = search needs
+
+-- src/looks.rt:119:9
+allow-deordering-top-requires : tie.Need-allow-deordering-top-requires
+allow-deordering-top-requires c κs = search needs
+
+-- src/looks.rt:120:5
+look-at-lists-requires : tie.Need-look-at-lists-requires
+look-at-lists-requires c κs =
+    let a = c .before .before .before .before .before .before .before .before .before .before .before .before .before .args in
+    let w = c .before .before .before .before .before .before .before .before .with-implodes in
+    let here : a .i < length (stored-steps (now (a .steps)) (a .n-steps)) = omega (arith, c .before .before .before .before .before .before .before .before .before .before .before .before .before .pre .0 .1, length-steps (now (a .steps)) (a .n-steps)) in
+    lists-asked (stored-steps (now (a .steps)) (a .n-steps)) (a .i) (a .n-steps) (around-of (a .e)) (arena-of (now (a .recs)) (now (a .line)) (now (a .off)) (a .n)) (a .tally) _ _ _ _ (w .result) here (c .before .before .before .before .before .before .before .before .before .before .before .before .before .pre .1 .1 .1) (w .ensures .0) (w .ensures .1 .0) (w .ensures .1 .1 .0) (w .ensures .1 .1 .1) (c .before .before .before .before .before .before .exprs-of .result) (c .before .before .before .before .aggs-of .result) (c .before .before .before .before .before .before .exprs-of .ensures) (c .before .before .before .before .aggs-of .ensures) (c .before .before .before .allow-deordering-top .result) (c .before .before .before .allow-deordering-top .ensures ∙ ap (λ (o : Options). allow-deordering-top (step-of o) (around-of (a .e))) (c .before .before .before .before .before .before .before .before .before .before .before .before .before .pre .1 .0 .1))
+
+-- src/looks.rt:96:1
+returns : tie.Need-returns
+returns c =
+    let a = c .before .before .before .before .before .before .before .before .before .before .before .before .before .before .args in
+    let w = c .before .before .before .before .before .before .before .before .before .with-implodes in
+    let here : a .i < length (stored-steps (now (a .steps)) (a .n-steps)) = omega (arith, c .before .before .before .before .before .before .before .before .before .before .before .before .before .before .pre .0 .1, length-steps (now (a .steps)) (a .n-steps)) in (
+      looks-given (stored-steps (now (a .steps)) (a .n-steps)) (a .i) (a .n-steps) (around-of (a .e)) (arena-of (now (a .recs)) (now (a .line)) (now (a .off)) (a .n)) (a .tally) _ _ _ _ (w .result) here (c .before .before .before .before .before .before .before .before .before .before .before .before .before .before .pre .1 .1 .1) (w .ensures .0) (w .ensures .1 .0) (w .ensures .1 .1 .0) (w .ensures .1 .1 .1) (c .before .before .before .before .before .before .before .exprs-of .result) (c .before .before .before .before .before .aggs-of .result) (c .before .before .before .before .before .before .before .exprs-of .ensures) (c .before .before .before .before .before .aggs-of .ensures) (c .before .before .before .before .allow-deordering-top .result) (c .before .before .before .before .allow-deordering-top .ensures ∙ ap (λ (o : Options). allow-deordering-top (step-of o) (around-of (a .e))) (c .before .before .before .before .before .before .before .before .before .before .before .before .before .before .pre .1 .0 .1)) _ _ (c .look-at-lists .result) (c .look-at-lists .ensures),
+      c .look-at-lists .ensures .visits,
+    )
+
+pub looks-of-spec : {M : Type 1} → statement M
+looks-of-spec =
+    tie.close
+    (tie.spec
+    with-implodes-requires
+    exprs-of-requires
+    aggs-of-requires
+    allow-deordering-top-requires
+    look-at-lists-requires
+    returns)

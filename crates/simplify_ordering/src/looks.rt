@@ -1,0 +1,121 @@
+// The looks of a visit: the lists of its step, with GroupBy's Implodes.
+ghost use mathlib.Core.Path.{_≡_};
+ghost use mathlib.Core.List.{List·Memᴰ};
+ghost use Prim.Native.Nat.{ℕ, _≤_, _<_};
+ghost use lib.ListN.{length, set, take};
+ghost use Rattle.plan.specs.Sheet.{step-at};
+ghost use Rattle.plan.specs.Stored.{arena-of, stored-steps};
+ghost use Rattle.plan.specs.Visit.{with-implodes, with-aggs, looks-of};
+ghost use Rattle.simplify_ordering.specs.Arena.{Arena-held};
+ghost use Rattle.simplify_ordering.specs.Held.{around-of, options-of, Steps-held};
+ghost use Rattle.simplify_ordering.specs.Looks.{Lists-ask, Lists-give, Listed, Looks-give};
+use crate::around::Around;
+use crate::implode::append_implodes;
+use crate::rules::Observable;
+use crate::rules::Options;
+use crate::rules::allow_deordering_top;
+use crate::steps::Entries;
+use crate::steps::aggs_of;
+use crate::steps::exprs_of;
+use expr::look::Tally;
+use expr::projected::expr_order_simplifier;
+use expr::projected::simplify_projected_exprs;
+use plan::ir::IR;
+
+// What was observed, the tally afterwards, and how many records the arena has.
+pub struct Looked {
+    pub observable: Observable,
+    pub tally: Tally,
+    pub exprs: usize,
+}
+
+// The n2 list, then the n3 list, with one cache and one observed set.
+fn look_at_lists(
+    recs: &[u8; 2048],
+    line: &mut [u8; 128],
+    off: &mut [bool; 128],
+    n: usize,
+    tally: Tally,
+    exprs: Entries,
+    aggs: Entries,
+    allow: bool,
+) -> Looked
+    requires { ⌜ Lists-ask (now recs) (now line) (now off) n (tally .looks) (take (exprs .count) (exprs .nodes)) (take (aggs .count) (aggs .nodes)) exprs aggs allow ⌝ }
+    ensures { λ r. ⌜ Lists-give (now (recs .entry)) (now (line .entry)) (now (off .entry)) n tally (take (exprs .count) (exprs .nodes)) (take (aggs .count) (aggs .nodes)) allow (now (line .exit)) (now (off .exit)) r ⌝ }
+{
+    let start = expr_order_simplifier(*line, *off, tally);
+    let expr_nodes = exprs.nodes;
+    let between = simplify_projected_exprs(recs, n, start, expr_nodes, exprs.count, allow);
+    let exprs_observable = between.answer;
+    let agg_nodes = aggs.nodes;
+    let end = simplify_projected_exprs(recs, n, between, agg_nodes, aggs.count, false);
+    let line_now = end.line;
+    *line = line_now;
+    let off_now = end.off;
+    *off = off_now;
+    let aggs_observable = end.answer;
+    let internal = end.observed;
+    let tally_now = end.tally;
+    Looked {
+        observable: Observable {
+            exprs: exprs_observable,
+            aggs: aggs_observable,
+            internal: internal,
+        },
+        tally: tally_now,
+        exprs: n,
+    }
+}
+
+// GroupBy's Implodes; any other step has none. The arena's length afterwards.
+fn with_implodes(
+    steps: &mut [u8; 1024],
+    n_steps: usize,
+    i: usize,
+    recs: &mut [u8; 2048],
+    line: &mut [u8; 128],
+    off: &mut [bool; 128],
+    n: usize,
+    kind: IR,
+) -> usize
+    requires { ⌜ Steps-held (now steps) «n_steps» × (i < «n_steps») ⌝ }
+    requires { ⌜ Arena-held (now recs) (now line) (now off) n × (kind ≡ step-at (stored-steps (now steps) «n_steps») i .kind) ⌝ }
+    requires { ⌜ ((q : ℕ) → List·Memᴰ q (step-at (stored-steps (now steps) «n_steps») i .aggs) → q < n) ⌝ }
+    requires { ⌜ length (with-implodes (step-at (stored-steps (now steps) «n_steps») i) (arena-of (now recs) (now line) (now off) n) .1) ≤ 128 ⌝ }
+    ensures { λ r. ⌜ arena-of (now (recs .exit)) (now (line .exit)) (now (off .exit)) r ≡ with-implodes (step-at (stored-steps (now (steps .entry)) «n_steps») i) (arena-of (now (recs .entry)) (now (line .entry)) (now (off .entry)) n) .1 ⌝ }
+    ensures { λ r. ⌜ stored-steps (now (steps .exit)) «n_steps» ≡ set (stored-steps (now (steps .entry)) «n_steps») i (with-aggs (with-implodes (step-at (stored-steps (now (steps .entry)) «n_steps») i) (arena-of (now (recs .entry)) (now (line .entry)) (now (off .entry)) n) .0) (step-at (stored-steps (now (steps .entry)) «n_steps») i)) ⌝ }
+    ensures { λ r. ⌜ Arena-held (now (recs .exit)) (now (line .exit)) (now (off .exit)) r × Steps-held (now (steps .exit)) «n_steps» ⌝ }
+{
+    if kind.number() == 7 {
+        return append_implodes(steps, n_steps, i, recs, line, off, n);
+    }
+    n
+}
+
+// The looks at the lists of step i, whose options are s and whose edges are e.
+pub fn looks_of(
+    steps: &mut [u8; 1024],
+    n_steps: usize,
+    i: usize,
+    recs: &mut [u8; 2048],
+    line: &mut [u8; 128],
+    off: &mut [bool; 128],
+    n: usize,
+    tally: Tally,
+    s: Options,
+    e: Around,
+) -> Looked
+    requires { ⌜ Steps-held (now steps) «n_steps» × (i < «n_steps») ⌝ }
+    requires { ⌜ Arena-held (now recs) (now line) (now off) n × (s ≡ options-of (step-at (stored-steps (now steps) «n_steps») i)) ⌝ }
+    requires { ⌜ ((q : ℕ) → List·Memᴰ q (step-at (stored-steps (now steps) «n_steps») i .aggs) → q < n) ⌝ }
+    requires { ⌜ Listed (looks-of (step-at (stored-steps (now steps) «n_steps») i) (around-of e) (arena-of (now recs) (now line) (now off) n) (tally .looks)) ⌝ }
+    ensures { λ r. ⌜ Looks-give (looks-of (step-at (stored-steps (now (steps .entry)) «n_steps») i) (around-of e) (arena-of (now (recs .entry)) (now (line .entry)) (now (off .entry)) n) (tally .looks)) i «n_steps» (stored-steps (now (steps .entry)) «n_steps») (now (steps .exit)) (now (recs .exit)) (now (line .exit)) (now (off .exit)) r ⌝ }
+    ensures { λ r. ⌜ r .tally .visits ≡ tally .visits ⌝ }
+{
+    let kind = s.kind;
+    let m = with_implodes(steps, n_steps, i, recs, line, off, n, kind);
+    let exprs = exprs_of(steps, n_steps, i);
+    let aggs = aggs_of(steps, n_steps, i);
+    let allow = allow_deordering_top(s, e);
+    look_at_lists(recs, line, off, m, tally, exprs, aggs, allow)
+}
