@@ -16,12 +16,14 @@ use Rattle.plan.specs.KindNumbers.{aexpr-there, ir-there}
 use Rattle.plan.specs.Lists.{if_then_else_, sum, empty?, same, yes?}
 use Rattle.plan.specs.Sheet.{Expr, Step, Sheet, E, P, refused, done, refuse_when_else_, lettered, expr-of, step-of, expr-fits, step-fits, in-expr-table, in-step-table, expr-count, over-limits, with-expr, with-step, read-line}
 use Rattle.plan.specs.Stored.{stored-exprs, stored-steps, stored-expr, stored-step, table}
+use Rattle.plan.specs.StoredLaws.{length-table}
+use Rattle.plan.specs.StoredChanges.{step-take}
 use Rattle.reading.specs.Line.{line, ended, numbers-after, numbers-of, Kept, All-read}
 use Rattle.reading.specs.Tables.{row, expr-numbers-fit, step-numbers-fit, most-a, most-b, most-c, inputs, exprs, most-aggs, within}
 use Rattle.reading.specs.Lines.{pasted, sheet-of, agg-entries, aggs-of, Sound, Line-taken}
 use Rattle.reading.specs.declared.line.Numbers.{Numbers}
 use Rattle.reading.specs.declared.lines.Tally.{Tally}
-use Rattle.reading.proofs.Stores.{table-length, step-take, more-exprs, exprs-formed, more-steps, steps-formed}
+use Rattle.reading.proofs.Stores.{more-exprs, exprs-formed, more-steps, steps-formed}
 
 -- The tables by a line's numbers ---------------------------------------------------------------------------------------------
 
@@ -196,11 +198,11 @@ sizes sh n m e f = rw (over-limits, expr-count, f, e)
 
 exprs-stored : (es : List ℕ) (n : ℕ) → length (stored-exprs es n) ≡ n
 unfolding stored-exprs
-exprs-stored es n = table-length (stored-expr es) 0 n
+exprs-stored es n = length-table (stored-expr es) 0 n
 
 steps-stored : (ps : List ℕ) (n : ℕ) → length (stored-steps ps n) ≡ n
 unfolding stored-steps
-steps-stored ps n = table-length (stored-step ps) 0 n
+steps-stored ps n = length-table (stored-step ps) 0 n
 
 pub no-steps : (ps : List ℕ) (n : ℕ) → n ≡ 0 → stored-steps ps n ≡ []
 unfolding stored-steps table
