@@ -1,7 +1,7 @@
 -- What a line that was read comes to.
 use mathlib.Core.Path.{_≡_, refl, sym, ap, _∙_, subst}
 use mathlib.Core.Bool.{Bool, true, false, _&&_, _||_, not}
-use mathlib.Core.List.{List, [], _∷_, _++_, append-nil}
+use mathlib.Core.List.{List, [], _∷_, _++_}
 use mathlib.Core.Option.{Option, none, some}
 use Prim.Native.Nat.{ℕ, zero, suc, _+_, _*_, _-_, _<_, _≤_}
 use native.Mathlib.Numerals.{add-one}
@@ -16,12 +16,14 @@ use Rattle.plan.specs.KindNumbers.{aexpr-there, ir-there}
 use Rattle.plan.specs.Lists.{if_then_else_, sum, empty?, same, yes?}
 use Rattle.plan.specs.Sheet.{Expr, Step, Sheet, E, P, refused, done, refuse_when_else_, lettered, expr-of, step-of, expr-fits, step-fits, in-expr-table, in-step-table, expr-count, over-limits, with-expr, with-step, read-line}
 use Rattle.plan.specs.Stored.{stored-exprs, stored-steps, stored-expr, stored-step, table}
+use Rattle.plan.specs.StoredLaws.{length-table}
+use Rattle.plan.specs.StoredChanges.{step-take}
 use Rattle.reading.specs.Line.{line, ended, numbers-after, numbers-of, Kept, All-read}
 use Rattle.reading.specs.Tables.{row, expr-numbers-fit, step-numbers-fit, most-a, most-b, most-c, inputs, exprs, most-aggs, within}
 use Rattle.reading.specs.Lines.{pasted, sheet-of, agg-entries, aggs-of, Sound, Line-taken}
 use Rattle.reading.specs.declared.line.Numbers.{Numbers}
 use Rattle.reading.specs.declared.lines.Tally.{Tally}
-use Rattle.reading.proofs.Stores.{table-length, step-take, more-exprs, exprs-formed, more-steps, steps-formed}
+use Rattle.reading.proofs.Stores.{more-exprs, exprs-formed, more-steps, steps-formed}
 
 -- The tables by a line's numbers ---------------------------------------------------------------------------------------------
 
@@ -196,11 +198,11 @@ sizes sh n m e f = rw (over-limits, expr-count, f, e)
 
 exprs-stored : (es : List ℕ) (n : ℕ) → length (stored-exprs es n) ≡ n
 unfolding stored-exprs
-exprs-stored es n = table-length (stored-expr es) 0 n
+exprs-stored es n = length-table (stored-expr es) 0 n
 
 steps-stored : (ps : List ℕ) (n : ℕ) → length (stored-steps ps n) ≡ n
 unfolding stored-steps
-steps-stored ps n = table-length (stored-step ps) 0 n
+steps-stored ps n = length-table (stored-step ps) 0 n
 
 pub no-steps : (ps : List ℕ) (n : ℕ) → n ≡ 0 → stored-steps ps n ≡ []
 unfolding stored-steps table
@@ -306,8 +308,8 @@ unfolding line
 line-length [] = omega arith
 line-length (x ∷ s) = line-step x s (eqb x 10) refl (line-length s)
 
-module _ (s : List ℕ) (f : Numbers) (A : All-read s f) where
-  first-kept : (i : ℕ) → i < 31 → i < f .count → getD (f .v) i 0 ≡ getD (A .list) i 0
+module _ (s v : List ℕ) (f : Numbers) (A : All-read s f v) where
+  first-kept : (i : ℕ) → i < 31 → i < f .count → getD v i 0 ≡ getD (A .list) i 0
   first-kept i h l = A .kept .first i h (let z = A .count in omega arith)
 
   pub E-few : f .count < 4 → (sh : Sheet) → read-line (lettered (69 ∷ []) (numbers-of s)) sh ≡ refused 3
@@ -320,7 +322,7 @@ module _ (s : List ℕ) (f : Numbers) (A : All-read s f) where
     E-is : lettered (69 ∷ []) (numbers-of s) ≡ some (E (A .list))
     E-is = ap (lettered (69 ∷ [])) (A .are) ∙ line-E (A .list) (let z = A .count in omega arith)
 
-    E-fits : {r : Bool} → r ≡ expr-numbers-fit (getD (f .v) 0 0) (getD (f .v) 1 0) (getD (f .v) 2 0) (getD (f .v) 3 0) (f .count - 4) → expr-fits (A .list) ≡ r
+    E-fits : {r : Bool} → r ≡ expr-numbers-fit (getD v 0 0) (getD v 1 0) (getD v 2 0) (getD v 3 0) (f .count - 4) → expr-fits (A .list) ≡ r
     E-fits e =
         expr-fits-is (A .list)
         ∙ rw (← first-kept 0 (omega arith) (omega arith), ← first-kept 1 (omega arith) (omega arith), ← first-kept 2 (omega arith) (omega arith), ← first-kept 3 (omega arith) (omega arith), ← A .count) (sym e)
@@ -329,7 +331,7 @@ module _ (s : List ℕ) (f : Numbers) (A : All-read s f) where
       pub E-late : (t .steps ≡ 0 → ⊥) → read-line (lettered (69 ∷ []) (numbers-of s)) (sheet-of es ps t) ≡ refused 3
       E-late k = ap (λ o. read-line o (sheet-of es ps t)) E-is ∙ after-steps (A .list) (sheet-of es ps t) (some-before es ps t snd k)
 
-      module _ (k : t .steps ≡ 0) (r : Bool) (e : r ≡ expr-numbers-fit (getD (f .v) 0 0) (getD (f .v) 1 0) (getD (f .v) 2 0) (getD (f .v) 3 0) (f .count - 4)) where
+      module _ (k : t .steps ≡ 0) (r : Bool) (e : r ≡ expr-numbers-fit (getD v 0 0) (getD v 1 0) (getD v 2 0) (getD v 3 0) (f .count - 4)) where
         pub E-not : r ≡ false → read-line (lettered (69 ∷ []) (numbers-of s)) (sheet-of es ps t) ≡ refused 4
         E-not n = ap (λ o. read-line o (sheet-of es ps t)) E-is ∙ expr-not (A .list) (sheet-of es ps t) (none-before es ps t snd k) (E-fits e ∙ n)
 
@@ -337,14 +339,14 @@ module _ (s : List ℕ) (f : Numbers) (A : All-read s f) where
           pub E-full : 128 ≤ t .exprs → read-line (lettered (69 ∷ []) (numbers-of s)) (sheet-of es ps t) ≡ refused 5
           E-full n = ap (λ o. read-line o (sheet-of es ps t)) E-is ∙ expr-over (A .list) (sheet-of es ps t) (none-before es ps t snd k) (E-fits e ∙ y) (full-exprs es ps t snd (expr-of (A .list)) n)
 
-          pub E-taken : (es′ : List ℕ) → t .exprs < 128 → f .count - 4 ≤ 8 → length es ≡ 2048 → es′ ≡ pasted es (t .exprs * 16) (set (f .v) 12 (f .count - 4)) 16
+          pub E-taken : (es′ : List ℕ) → t .exprs < 128 → f .count - 4 ≤ 8 → length es ≡ 2048 → es′ ≡ pasted es (t .exprs * 16) (set v 12 (f .count - 4)) 16
               → Line-taken (lettered (69 ∷ []) (numbers-of s)) (69 ∷ s) es ps es′ ps t (record { exprs = t .exprs + 1; aggs = t .aggs; steps = t .steps }) (f .len + 1)
           unfolding with-expr
           E-taken es′ n c l p =
               let q : 4 + (f .count - 4) ≡ length (A .list) = (let z = A .count in omega arith) in
-              let u : take (4 + (f .count - 4)) (f .v) ≡ A .list = ap (λ m. take m (f .v)) q ∙ kept-all (A .list) (f .v) (A .kept) (omega arith) in
-              let small = more-exprs es (f .v) (t .exprs) (f .count - 4) n l (A .kept .size) c (snd .exprs) in
-              let fit = fit-expr (getD (f .v) 0 0) (getD (f .v) 1 0) (getD (f .v) 2 0) (getD (f .v) 3 0) (f .count - 4) (sym e ∙ y) in
+              let u : take (4 + (f .count - 4)) v ≡ A .list = ap (λ m. take m v) q ∙ kept-all (A .list) v (A .kept) (omega arith) in
+              let small = more-exprs es v (t .exprs) (f .count - 4) n l (A .kept .size) c (snd .exprs) in
+              let fit = fit-expr (getD v 0 0) (getD v 1 0) (getD v 2 0) (getD v 3 0) (f .count - 4) (sym e ∙ y) in
               let z = no-aggs es ps t snd k in
               record {
                 taken =
@@ -353,7 +355,7 @@ module _ (s : List ℕ) (f : Numbers) (A : All-read s f) where
                     ∙ ap (λ (x : List Expr). done (record { exprs = x; steps = stored-steps ps (t .steps) }))
                     (sym (ap (λ x. stored-exprs x (t .exprs + 1)) p ∙ small ∙ ap (λ x. stored-exprs es (t .exprs) ++ (expr-of x ∷ [])) u));
                 sound = record {
-                  exprs = rw p (exprs-formed es (f .v) (t .exprs) (f .count - 4) n l (A .kept .size) c (snd .exprs) (fit .0) (fit .1 .0) (fit .1 .1));
+                  exprs = rw p (exprs-formed es v (t .exprs) (f .count - 4) n l (A .kept .size) c (snd .exprs) (fit .0) (fit .1 .0) (fit .1 .1));
                   steps = snd .steps;
                   aggs = snd .aggs;
                   few-exprs = omega arith;
@@ -365,7 +367,7 @@ module _ (s : List ℕ) (f : Numbers) (A : All-read s f) where
 
   module _ (h : 7 ≤ f .count) where
     abbrev numbers-fit : Bool
-    numbers-fit = step-numbers-fit (getD (f .v) 0 0) (getD (f .v) 1 0) (getD (f .v) 2 0) (getD (f .v) 3 0) (getD (f .v) 4 0) (getD (f .v) 5 0) (getD (f .v) 6 0) (f .count)
+    numbers-fit = step-numbers-fit (getD v 0 0) (getD v 1 0) (getD v 2 0) (getD v 3 0) (getD v 4 0) (getD v 5 0) (getD v 6 0) (f .count)
 
     P-is : lettered (80 ∷ []) (numbers-of s) ≡ some (P (A .list))
     P-is = ap (lettered (80 ∷ [])) (A .are) ∙ line-P (A .list) (let z = A .count in omega arith)
@@ -393,15 +395,15 @@ module _ (s : List ℕ) (f : Numbers) (A : All-read s f) where
         kind-small : getD (A .list) 0 0 < 19
         kind-small = subst (λ n. n < 19) (first-kept 0 (omega arith) (omega arith)) (fit-kind _ _ _ _ _ _ _ _ (sym e ∙ y) .0)
 
-        adds-up : f .count ≡ 7 + getD (f .v) 4 0 + getD (f .v) 5 0 + getD (f .v) 6 0
-        adds-up = fit-kind (getD (f .v) 0 0) (getD (f .v) 1 0) (getD (f .v) 2 0) (getD (f .v) 3 0) (getD (f .v) 4 0) (getD (f .v) 5 0) (getD (f .v) 6 0) (f .count) (sym e ∙ y) .1
+        adds-up : f .count ≡ 7 + getD v 4 0 + getD v 5 0 + getD v 6 0
+        adds-up = fit-kind (getD v 0 0) (getD v 1 0) (getD v 2 0) (getD v 3 0) (getD v 4 0) (getD v 5 0) (getD v 6 0) (f .count) (sym e ∙ y) .1
 
         list-adds-up : length (A .list) ≡ 7 + getD (A .list) 4 0 + getD (A .list) 5 0 + getD (A .list) 6 0
         list-adds-up =
             sym (A .count) ∙ adds-up
             ∙ rw (first-kept 4 (omega arith) (omega arith), first-kept 5 (omega arith) (omega arith), first-kept 6 (omega arith) (omega arith))
 
-        entries-are : entries (step-of (A .list)) ≡ aggs-of (getD (f .v) 0 0) (getD (f .v) 6 0)
+        entries-are : entries (step-of (A .list)) ≡ aggs-of (getD v 0 0) (getD v 6 0)
         unfolding entries step-of
         entries-are =
             ap (λ (n : ℕ). if eqb n 7 then length (step-of (A .list) .aggs) else 0) (ir-there (getD (A .list) 0 0) kind-small)
@@ -411,20 +413,20 @@ module _ (s : List ℕ) (f : Numbers) (A : All-read s f) where
         pub P-full : 32 ≤ t .steps → read-line (lettered (80 ∷ []) (numbers-of s)) (sheet-of es ps t) ≡ refused 5
         P-full n = ap (λ o. read-line o (sheet-of es ps t)) P-is ∙ step-over (A .list) (sheet-of es ps t) (P-fits e ∙ y) (full-steps es ps t snd (step-of (A .list)) n)
 
-        module _ (a : ℕ) (ae : a ≡ aggs-of (getD (f .v) 0 0) (getD (f .v) 6 0)) where
+        module _ (a : ℕ) (ae : a ≡ aggs-of (getD v 0 0) (getD v 6 0)) where
           pub P-over : 128 < t .exprs + (t .aggs + a) → read-line (lettered (80 ∷ []) (numbers-of s)) (sheet-of es ps t) ≡ refused 5
           P-over n =
               ap (λ o. read-line o (sheet-of es ps t)) P-is
               ∙ step-over (A .list) (sheet-of es ps t) (P-fits e ∙ y) (full-aggs es ps t snd (step-of (A .list)) (let z = entries-are in omega arith))
 
-          pub P-taken : (ps′ : List ℕ) → t .steps < 32 → t .exprs + (t .aggs + a) ≤ 128 → (getD (f .v) 4 0 ≤ 8) × ((getD (f .v) 5 0 ≤ 8) × (getD (f .v) 6 0 ≤ 8)) → length ps ≡ 1024
-              → ps′ ≡ pasted ps (t .steps * 32) (f .v) 32
+          pub P-taken : (ps′ : List ℕ) → t .steps < 32 → t .exprs + (t .aggs + a) ≤ 128 → (getD v 4 0 ≤ 8) × ((getD v 5 0 ≤ 8) × (getD v 6 0 ≤ 8)) → length ps ≡ 1024
+              → ps′ ≡ pasted ps (t .steps * 32) v 32
               → Line-taken (lettered (80 ∷ []) (numbers-of s)) (80 ∷ s) es ps es ps′ t (record { exprs = t .exprs; aggs = t .aggs + a; steps = t .steps + 1 }) (f .len + 1)
           unfolding with-step
           P-taken ps′ n m c l p =
-              let u : take (f .count) (f .v) ≡ A .list = ap (λ m. take m (f .v)) (A .count) ∙ kept-all (A .list) (f .v) (A .kept) (let z = A .count in let w = adds-up in omega arith) in
-              let w : step-of (f .v) ≡ step-of (A .list) = sym (step-take (f .v) (f .count) (let w = adds-up in omega arith)) ∙ ap step-of u in
-              let more = ap (λ x. stored-steps x (t .steps + 1)) p ∙ more-steps ps (f .v) (t .steps) n l (A .kept .size) (c .0) (c .1 .0) (c .1 .1) (snd .steps) ∙ ap (λ x. stored-steps ps (t .steps) ++ (x ∷ [])) w in
+              let u : take (f .count) v ≡ A .list = ap (λ m. take m v) (A .count) ∙ kept-all (A .list) v (A .kept) (let z = A .count in let w = adds-up in omega arith) in
+              let w : step-of v ≡ step-of (A .list) = sym (step-take v (f .count) (let w = adds-up in omega arith)) ∙ ap step-of u in
+              let more = ap (λ x. stored-steps x (t .steps + 1)) p ∙ more-steps ps v (t .steps) n l (A .kept .size) (c .0) (c .1 .0) (c .1 .1) (snd .steps) ∙ ap (λ x. stored-steps ps (t .steps) ++ (x ∷ [])) w in
               record {
                 taken =
                     ap (λ o. read-line o (sheet-of es ps t)) P-is
@@ -432,8 +434,8 @@ module _ (s : List ℕ) (f : Numbers) (A : All-read s f) where
                     ∙ ap (λ (x : List Step). done (record { exprs = stored-exprs es (t .exprs); steps = x })) (sym more);
                 sound = record {
                   exprs = snd .exprs;
-                  steps = rw p (steps-formed ps (f .v) (t .steps) n l (A .kept .size) (c .0) (c .1 .0) (c .1 .1) (snd .steps) (fit-kind _ _ _ _ _ _ _ _ (sym e ∙ y) .0));
-                  aggs = (let z = snd .aggs in let v = entries-are in let y = agg-more (stored-steps ps (t .steps)) (step-of (A .list)) in omega (arith, ap agg-entries more));
+                  steps = rw p (steps-formed ps v (t .steps) n l (A .kept .size) (c .0) (c .1 .0) (c .1 .1) (snd .steps) (fit-kind _ _ _ _ _ _ _ _ (sym e ∙ y) .0));
+                  aggs = (let z = snd .aggs in let u = entries-are in let y = agg-more (stored-steps ps (t .steps)) (step-of (A .list)) in omega (arith, ap agg-entries more));
                   few-exprs = omega arith;
                   few-steps = omega arith;
                 };

@@ -6,7 +6,7 @@ use mathlib.Core.Option.{Option, none, some}
 use Prim.Native.Nat.{ℕ, suc, _+_, _-_, _<_, _≤_}
 use native.Mathlib.Omega.{arith}
 use lib.Dec.{eqb, ltb}
-use lib.ListN.{length, getD, take, drop, set, replicate, length-drop, length-append, length-set, List·getD-append}
+use lib.ListN.{length, getD, take, drop, set, length-drop, length-append, length-set, List·getD-append}
 use lib.Seq.{take-all, getD-set-same, getD-set-other, getD-append-seam}
 use native.Mathlib.Decide.{ℕ-discrete}
 use native.Mathlib.Nat.{le-refl, not-suc-le-zero}
@@ -14,10 +14,9 @@ use borrow.Author.Tests.{ltb-true, ltb-false, eq-eqb, ne-eqb, eqb-true}
 use Rattle.plan.specs.Lists.{if_then_else_}
 use Rattle.plan.specs.Sheet.{parts, onto, numbers, number, cons?}
 use Rattle.reading.specs.Number.{separator?, field, number-at, found, width}
-use Rattle.reading.specs.Line.{line, ended, numbers-after, numbers-of, field-of, field-at, no-numbers, pushed, Kept, Numbers-read}
+use Rattle.reading.specs.Line.{line, ended, numbers-after, numbers-of, field-of, field-at, placed, Kept, Numbers-read}
 use Rattle.reading.specs.declared.number.Number.{Number}
 use Rattle.reading.specs.declared.line.Field.{Field}
-use Rattle.reading.specs.declared.line.Numbers.{Numbers}
 
 -- the part of a slice from a place on
 pub part-from : (s : List ℕ) (a : ℕ) → take (length s - a) (drop a s) ≡ drop a s
@@ -207,72 +206,64 @@ kept-more : (ns v : List ℕ) (x : ℕ) → Kept ns v → (t : Bool) → ltb (le
 kept-more ns v x k true e = kept-push ns v x k (ltb-true (length ns) 31 e)
 kept-more ns v x k false e = kept-full ns v x k (ltb-false (length ns) 31 e)
 
--- what was read of s so far, with the rest to come
-pub record Sofar (s : List ℕ) (f : Numbers) (rest : List ℕ) : Type 0 where
+-- what was read of s so far, with the rest to come: so many bytes, so many numbers, kept in v
+pub record Sofar (s : List ℕ) (len count : ℕ) (v rest : List ℕ) : Type 0 where
   list : List ℕ
   are : numbers-of s ≡ prepend list (numbers-of rest)
-  count : f .count ≡ length list
-  kept : Kept list (f .v)
-  long : length (line s) ≡ f .len + length (line rest)
-  pub ok : f .ok ≡ true
-  pub fits : f .len + length rest ≡ length s
-  pub few : f .count ≤ f .len
+  counted : count ≡ length list
+  kept : Kept list v
+  long : length (line s) ≡ len + length (line rest)
+  pub fits : len + length rest ≡ length s
+  pub few : count ≤ len
 
-none-kept : Kept [] (replicate 32 0)
-none-kept = record { size = refl; first = λ i l m. absurd (not-suc-le-zero m) }
-
-pub begin : (s : List ℕ) (f : Numbers) → f ≡ no-numbers true → Sofar s f s
-begin s f e =
-    rw e
+pub begin : (s v : List ℕ) → length v ≡ 32 → Sofar s 0 0 v s
+begin s v e =
     record {
       list = [];
       are = prepend-nil (numbers-of s);
-      count = refl;
-      kept = none-kept;
+      counted = refl;
+      kept = record { size = e; first = λ i l m. absurd (not-suc-le-zero m) };
       long = omega arith;
-      ok = refl;
       fits = omega arith;
       few = omega arith;
     }
 
-more : (s rest : List ℕ) (f : Numbers) (x n : ℕ) → Stood rest x n → Sofar s f rest → Sofar s (pushed f x n) (drop n rest)
-more s rest f x n t w =
-    record {
-      list = w .list ++ (x ∷ []);
-      are = w .are ∙ ap (prepend (w .list)) (t .are) ∙ prepend-more (w .list) x (numbers-of (drop n rest));
-      count = omega (arith, w .count, length-append (w .list) (x ∷ []));
-      kept = rw (w .count) (kept-more (w .list) (f .v) x (w .kept) (ltb (length (w .list)) 31) refl);
-      long = omega (arith, w .long, t .long);
-      ok = w .ok;
-      fits = omega (arith, w .fits, t .fits, length-drop n rest);
-      few = omega (arith, w .few, t .some-bytes);
-    }
+module _ (s rest v : List ℕ) (len count : ℕ) (w : Sofar s len count v rest) where
+  more : (x n : ℕ) → Stood rest x n → Sofar s (len + n) (count + 1) (placed v count x) (drop n rest)
+  more x n t =
+      record {
+        list = w .list ++ (x ∷ []);
+        are = w .are ∙ ap (prepend (w .list)) (t .are) ∙ prepend-more (w .list) x (numbers-of (drop n rest));
+        counted = omega (arith, w .counted, length-append (w .list) (x ∷ []));
+        kept = rw (w .counted) (kept-more (w .list) v x (w .kept) (ltb (length (w .list)) 31) refl);
+        long = omega (arith, w .long, t .long);
+        fits = omega (arith, w .fits, t .fits, length-drop n rest);
+        few = omega (arith, w .few, t .some-bytes);
+      }
 
-pub turn : (s rest : List ℕ) (f g : Numbers) (x n : ℕ) → field-at rest ≡ Field.Number x n → g ≡ pushed f x n → Sofar s f rest → Sofar s g (take (length rest - n) (drop n rest))
-turn s rest f g x n e p w = rw (p, part-from rest n) (more s rest f x n (stood rest x n e) w)
+  pub turn : (v′ : List ℕ) (x n : ℕ) → field-at rest ≡ Field.Number x n → v′ ≡ placed v count x → Sofar s (len + n) (count + 1) v′ (take (length rest - n) (drop n rest))
+  turn v′ x n e p = rw (p, part-from rest n) (more x n (stood rest x n e))
 
-pub ends : (s rest : List ℕ) (f g : Numbers) → field-at rest ≡ Field.End → Sofar s f rest → g ≡ record { ok = f .ok; len = f .len + 1; count = f .count; v = f .v } → Numbers-read s g
-ends s rest f g e w p =
-    let (a, b) = at-end rest e in
-    rw p
-    record {
-      good = λ _. record {
-        list = w .list;
-        are = w .are ∙ rw a (ap some (append-nil (w .list)));
-        count = w .count;
-        kept = w .kept;
-        len = omega (arith, w .long, ap length b);
-      };
-      bad = λ t. let z : true ≡ false = sym (w .ok) ∙ t in absurd (true-false z);
-    }
+  pub ends : field-at rest ≡ Field.End → Numbers-read s (record { ok = true; len = len + 1; count = count }) v
+  ends e =
+      let (a, b) = at-end rest e in
+      record {
+        good = λ _. record {
+          list = w .list;
+          are = w .are ∙ rw a (ap some (append-nil (w .list)));
+          count = w .counted;
+          kept = w .kept;
+          len = omega (arith, w .long, ap length b);
+        };
+        bad = λ t. absurd (true-false t);
+      }
 
-pub breaks : (s rest : List ℕ) (f g : Numbers) → field-at rest ≡ Field.Broken → Sofar s f rest → g ≡ no-numbers false → Numbers-read s g
-breaks s rest f g e w p =
-    rw p
-    record {
-      good = λ t. absurd (true-false (sym t));
-      bad = λ _. w .are ∙ ap (prepend (w .list)) (broken rest e);
-    }
+  pub breaks : field-at rest ≡ Field.Broken → Numbers-read s (record { ok = false; len = 0; count = 0 }) v
+  breaks e =
+      record {
+        good = λ t. absurd (true-false (sym t));
+        bad = λ _. w .are ∙ ap (prepend (w .list)) (broken rest e);
+      }
 
 -- The code's needs ----------------------------------------------------------------------------------------------------------
 

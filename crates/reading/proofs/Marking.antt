@@ -17,10 +17,10 @@ use Rattle.plan.specs.Lists.{all?, numbered, among, times, rest, if_then_else_}
 use Rattle.plan.specs.Sheet.{Expr, expr-at, no-expr}
 use Rattle.plan.specs.Faults.{children-earlier, evaluated, fields-right}
 use Rattle.plan.specs.Stored.{stored-expr, stored-exprs}
+use Rattle.plan.specs.StoredLaws.{length-table}
 use Rattle.reading.specs.Held.{children-of, Exprs-held}
 use Rattle.reading.specs.Uses.{Counted}
 use Rattle.reading.specs.Marks.{marked-by, markings, field-marked}
-use Rattle.reading.proofs.Stores.{table-length}
 use Rattle.reading.proofs.Scans.{children-are, kind-of, expr-kind-is, table-at}
 use Rattle.reading.proofs.Names.{at-least}
 use Rattle.reading.proofs.Members.{In, there, not-in-none, in-left, in-right, in-either, times-in, in-times, same-tests, all-numbered-same, earlier, held, evaluation, downward, only, here}
@@ -102,7 +102,7 @@ module _ (es : List ℕ) (n : ℕ) where
 
   size : length E ≡ n
   unfolding stored-exprs
-  size = table-length (stored-expr es) 0 n
+  size = length-table (stored-expr es) 0 n
 
   at : (p : ℕ) → p < n → expr-at E p ≡ stored-expr es p
   unfolding stored-exprs

@@ -6,12 +6,12 @@ use mathlib.Core.Option.{none, some}
 use Prim.Native.Nat.{ℕ, zero, suc, _+_, _*_, _-_, _<_, _≤_}
 use native.Mathlib.Omega.{arith}
 use native.Mathlib.Decide.{decLe, ℕ-discrete}
-use lib.Dec.{eqb, leb}
+use lib.Dec.{eqb, ltb, leb}
 use lib.ListN.{length, getD, drop}
 use borrow.Author.Tests.{lt-ltb, le-ltb, le-leb, lt-leb, eq-eqb, ne-eqb}
 use Rattle.plan.specs.Lists.{if_then_else_}
 use Rattle.plan.specs.Sheet.{value, number, at-most}
-use Rattle.reading.specs.Number.{separator?, field, found, number-at, digit-of, digit-at, number-of}
+use Rattle.reading.specs.Number.{separator?, field, found, number-at, digit-of, digit-at}
 use Rattle.reading.specs.declared.number.Number.{Number}
 use Rattle.reading.specs.declared.number.Number.the-variants.{Value, Bad}
 
@@ -121,6 +121,18 @@ number-second a x l h k = choice (eqb (48 + a) 48)
 number-one : (a : ℕ) → a < 10 → number ((48 + a) ∷ []) ≡ some a
 unfolding number value
 number-one a h = value-digit 0 a [] h ∙ ap some (omega arith)
+
+-- what the first four digits tell
+unfoldable number-of : ℕ → ℕ → ℕ → ℕ → Number
+number-of a b c d =
+    if leb 10 a then Bad
+    else if eqb b 10 then Value a 1
+    else if ltb 10 b then Bad
+    else if eqb a 0 then Bad
+    else if eqb c 10 then Value (a * 10 + b) 2
+    else if ltb 10 c then Bad
+    else if eqb d 10 then (if ltb 255 (a * 100 + b * 10 + c) then Bad else Value (a * 100 + b * 10 + c) 3)
+    else Bad
 
 -- The ways through number-of -------------------------------------------------------------------------------------------------
 
@@ -236,11 +248,19 @@ front-at s zero = front s
 front-at [] (suc i) = end
 front-at (x ∷ s) (suc i) = front-at s i
 
-pub numeral : (s : List ℕ) → number-of (digit-at s 0) (digit-at s 1) (digit-at s 2) (digit-at s 3) ≡ number-at s
+numeral : (s : List ℕ) → number-of (digit-at s 0) (digit-at s 1) (digit-at s 2) (digit-at s 3) ≡ number-at s
 unfolding number-at
 numeral s = first (digit-at s 1) (digit-at s 2) (digit-at s 3) s (digit-at s 0) (front s) (front-at s 1) (front-at s 2) (front-at s 3)
 
 -- The code's needs -----------------------------------------------------------------------------------------------------------
+
+pub byte-above : (x : ℕ) → 57 < x → 11 ≡ digit-of x
+unfolding digit-of
+byte-above x h = simp (digit-of, ne-eqb x 44 (λ e. omega arith), ne-eqb x 10 (λ e. omega arith), le-ltb x 48 (omega arith), lt-ltb 57 x h)
+
+pub byte-digit : (x : ℕ) → 48 ≤ x → x ≤ 57 → x - 48 ≡ digit-of x
+unfolding digit-of
+byte-digit x h k = simp (digit-of, ne-eqb x 44 (λ e. omega arith), ne-eqb x 10 (λ e. omega arith), le-ltb x 48 h, le-ltb 57 x k)
 
 pub digit-here : (s : List ℕ) (i r : ℕ) → i < length s → r ≡ digit-of (getD s i 0) → r ≡ digit-at s i
 unfolding digit-at
@@ -254,8 +274,38 @@ digit-past [] i h = refl
 digit-past (x ∷ s) zero h = absurd (omega arith)
 digit-past (x ∷ s) (suc i) h = digit-past s i (omega arith)
 
-pub three : (a b c d n : ℕ) → a < 10 → b < 10 → (a ≡ 0 → ⊥) → c < 10 → d ≡ 10 → n ≡ a * 100 + b * 10 + c → n ≤ 255 → Value n 3 ≡ number-of a b c d
-three a b c d n h k z l m e o = sym (way-three a b c d h k z l m (rw e at o) ∙ ap (λ v. Value v 3) (sym e))
+-- the number, by as many digits as it takes to tell
+module _ (s : List ℕ) (a : ℕ) (ea : a ≡ digit-at s 0) where
+  told-by : (b c d : ℕ) → b ≡ digit-at s 1 → c ≡ digit-at s 2 → d ≡ digit-at s 3 → number-of a b c d ≡ number-at s
+  told-by b c d eb ec ed = rw (ea, eb, ec, ed) (numeral s)
 
-pub too-large : (a b c d : ℕ) → a < 10 → b < 10 → (a ≡ 0 → ⊥) → c < 10 → d ≡ 10 → 255 < a * 100 + b * 10 + c → Bad ≡ number-of a b c d
-too-large a b c d h k z l m o = sym (way-over a b c d h k z l m o)
+  pub no-first : 10 ≤ a → Bad ≡ number-at s
+  no-first h = sym (way-none a _ _ _ h) ∙ told-by _ _ _ refl refl refl
+
+  module _ (b : ℕ) (eb : b ≡ digit-at s 1) (h : a < 10) where
+    pub one-digit : b ≡ 10 → Value a 1 ≡ number-at s
+    one-digit k = sym (way-one a b _ _ h k) ∙ told-by b _ _ eb refl refl
+
+    pub no-second : 10 < b → Bad ≡ number-at s
+    no-second k = sym (way-second a b _ _ h k) ∙ told-by b _ _ eb refl refl
+
+    pub leading-zero : b < 10 → a ≡ 0 → Bad ≡ number-at s
+    leading-zero k z = sym (way-led a b _ _ h k z) ∙ told-by b _ _ eb refl refl
+
+    module _ (k : b < 10) (z : 0 < a) (c : ℕ) (ec : c ≡ digit-at s 2) where
+      pub two-digits : c ≡ 10 → Value (a * 10 + b) 2 ≡ number-at s
+      two-digits l = sym (way-two a b c _ h k (λ e. omega arith) l) ∙ told-by b c _ eb ec refl
+
+      pub no-third : 10 < c → Bad ≡ number-at s
+      no-third l = sym (way-third a b c _ h k (λ e. omega arith) l) ∙ told-by b c _ eb ec refl
+
+      module _ (l : c < 10) (d : ℕ) (ed : d ≡ digit-at s 3) where
+        pub too-long : (d ≡ 10 → ⊥) → Bad ≡ number-at s
+        too-long m = sym (way-fourth a b c d h k (λ e. omega arith) l m) ∙ told-by b c d eb ec ed
+
+        pub too-large : d ≡ 10 → 255 < a * 100 + b * 10 + c → Bad ≡ number-at s
+        too-large m o = sym (way-over a b c d h k (λ e. omega arith) l m o) ∙ told-by b c d eb ec ed
+
+        pub three-digits : (n : ℕ) → d ≡ 10 → n ≡ a * 100 + b * 10 + c → n ≤ 255 → Value n 3 ≡ number-at s
+        three-digits n m e o =
+            ap (λ v. Value v 3) e ∙ sym (way-three a b c d h k (λ e. omega arith) l m (rw e at o)) ∙ told-by b c d eb ec ed

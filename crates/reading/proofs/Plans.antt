@@ -10,6 +10,7 @@ use Rattle.plan.specs.Lists.{all?, numbered}
 use Rattle.plan.specs.Sheet.{Sheet, Outcome, refused, done, _then_, refuse_when_else_, read, read-lines, parts, no-lines, no-plan}
 use Rattle.plan.specs.Faults.{checked, references-right, uses-right, fields-right, children-earlier}
 use Rattle.plan.specs.Stored.{stored-expr, stored-step, stored-exprs, stored-steps}
+use Rattle.plan.specs.StoredLaws.{length-table}
 use Rattle.reading.specs.Held.{Exprs-held, Steps-held, sheet}
 use Rattle.reading.specs.Lines.{Sound, All-taken, Lines-read}
 use Rattle.reading.specs.Plan.{plan-of, checked-plan, Plan-is}
@@ -17,7 +18,6 @@ use Rattle.reading.specs.declared.lines.Tally.{Tally}
 use Rattle.reading.specs.declared.lines.Lines.{Lines}
 use Rattle.reading.specs.declared.Plan.{Plan}
 use Rattle.reading.specs.declared.Plan.the-variants.{Taken, Refused}
-use Rattle.reading.proofs.Stores.{table-length}
 use Rattle.reading.proofs.Checks.{no-steps, some-steps}
 
 -- What comes after the last line ---------------------------------------------------------------------------------------------
@@ -63,11 +63,11 @@ module _ (es ps : List ℕ) (n m : ℕ) where
 
   exprs-length : length (stored-exprs es n) ≡ n
   unfolding stored-exprs
-  exprs-length = table-length (stored-expr es) 0 n
+  exprs-length = length-table (stored-expr es) 0 n
 
   steps-length : length (stored-steps ps m) ≡ m
   unfolding stored-steps
-  steps-length = table-length (stored-step ps) 0 m
+  steps-length = length-table (stored-step ps) 0 m
 
   pub taken : (o : Outcome Sheet) → o ≡ done sh → Plan-is o es ps (Taken (record { exprs = n; steps = m }))
   taken o e =

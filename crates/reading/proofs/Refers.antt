@@ -13,8 +13,8 @@ use Rattle.plan.specs.Lists.{all?, numbered}
 use Rattle.plan.specs.Sheet.{Expr, Step, step-at, no-step}
 use Rattle.plan.specs.Faults.{children-earlier, inputs-earlier, exprs-there, references-right}
 use Rattle.plan.specs.Stored.{stored-expr, stored-step, stored-exprs, stored-steps}
+use Rattle.plan.specs.StoredLaws.{length-table}
 use Rattle.reading.specs.Held.{children-of, count-of, both, before-no-sink, sheet}
-use Rattle.reading.proofs.Stores.{table-length}
 use Rattle.reading.proofs.Scans.{children-are, inputs-are, both-are, step-kind, step-kind-is, table-at, lines-from, from-first}
 
 pub all-same : {A : Type 0} (f g : A → Bool) → ((x : A) → f x ≡ g x) → (l : List A) → all? f l ≡ all? g l
@@ -77,7 +77,7 @@ module _ (ps : List ℕ) (i m : ℕ) where
 module _ (es ps : List ℕ) (n m : ℕ) where
   length-exprs : length (stored-exprs es n) ≡ n
   unfolding stored-exprs
-  length-exprs = table-length (stored-expr es) 0 n
+  length-exprs = length-table (stored-expr es) 0 n
 
   there : (x : ℕ × Step) → all? (λ q. ltb q n) (both (x .1)) ≡ exprs-there (sheet es n ps m) x
   unfolding exprs-there

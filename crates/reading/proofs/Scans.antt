@@ -5,9 +5,10 @@ use mathlib.Core.List.{List, [], _∷_, _++_}
 use Prim.Native.Nat.{ℕ, zero, suc, _+_, _*_, _-_, _<_, _≤_}
 use native.Mathlib.Numerals.{add-one}
 use native.Mathlib.Omega.{arith}
+use native.Mathlib.Nat.{suc-add}
 use lib.Dec.{eqb}
 use lib.ListN.{length, getD, take, drop, List·getD-eq-default}
-use lib.Seq.{drop-cons, drop-drop, getD-take, getD-drop, take-add}
+use lib.Seq.{take-nil, drop-cons, drop-drop, getD-take, getD-drop, take-add}
 use native.Mathlib.Decide.{decLe}
 use borrow.Author.Tests.{ne-eqb}
 use Rattle.plan.specs.declared.aexpr.AExpr.{AExpr}
@@ -18,7 +19,6 @@ use Rattle.plan.specs.Lists.{all?, numbered}
 use Rattle.plan.specs.Sheet.{expr-of, step-of}
 use Rattle.plan.specs.Stored.{stored-expr, stored-step, table}
 use Rattle.reading.specs.Held.{children-of, count-of, both}
-use Rattle.reading.proofs.Stores.{drop-take}
 
 -- a count that goes down as an index goes up
 left : (i n : ℕ) → i < n → n - i ≡ suc (n - (i + 1))
@@ -91,6 +91,11 @@ module _ {A : Type 0} (f : ℕ × A → Bool) (g : ℕ → A) (n : ℕ) where
   from-first = let e : n - 0 ≡ n = omega arith in rw e
 
 -- The lists of stored lines --------------------------------------------------------------------------------------------------
+
+drop-take : (a m : ℕ) (l : List ℕ) → drop a (take (a + m) l) ≡ take m (drop a l)
+drop-take zero m l = let e : 0 + m ≡ m = omega arith in rw e
+drop-take (suc a) m [] = ap (drop (suc a)) (take-nil (suc a + m)) ∙ sym (take-nil m)
+drop-take (suc a) m (x ∷ l) = ap (λ n. drop (suc a) (take n (x ∷ l))) (suc-add a m) ∙ drop-take a m l
 
 pub children-are : (es : List ℕ) (i : ℕ) → stored-expr es i .children ≡ take (children-of es i) (drop (i * 16 + 4) es)
 unfolding stored-expr expr-of

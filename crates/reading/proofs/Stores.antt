@@ -1,17 +1,18 @@
 -- A line's numbers written into the bytes, and what is read there afterwards.
-use mathlib.Core.Path.{_≡_, refl, sym, ap, _∙_}
+use mathlib.Core.Path.{_≡_, sym, ap, _∙_}
 use mathlib.Core.List.{List, [], _∷_, _++_, append-assoc}
-use Prim.Native.Nat.{ℕ, zero, suc, _+_, _*_, _-_, _<_, _≤_}
+use Prim.Native.Nat.{ℕ, _+_, _*_, _<_, _≤_}
 use native.Mathlib.Numerals.{add-one}
 use native.Mathlib.Omega.{arith}
-use native.Mathlib.Nat.{suc-add}
 use native.Mathlib.Decide.{ℕ-discrete}
 use Rattle.plan.specs.Sheet.{expr-of, step-of}
 use Rattle.plan.specs.Stored.{stored-expr, stored-step, stored-exprs, stored-steps, table, Expr-formed, Step-formed}
+use Rattle.plan.specs.StoredLaws.{table-more, same-table}
+use Rattle.plan.specs.StoredChanges.{step-take}
 use Rattle.reading.specs.Lines.{pasted}
 use Rattle.reading.specs.Held.{children-of, count-of}
 use lib.ListN.{length, getD, take, drop, set, length-set, length-drop, take-append-drop, List·getD-append}
-use lib.Seq.{paste-zero, paste-suc, length-paste, take-nil, take-append-le, drop-append-le, drop-at, take-take, drop-drop, getD-take, getD-drop, length-take-le, take-set-le, getD-set-same, getD-set-other}
+use lib.Seq.{paste-zero, paste-suc, length-paste, take-append-le, drop-append-le, drop-at, take-take, getD-take, getD-drop, length-take-le, take-set-le, getD-set-same, getD-set-other}
 
 -- The loop that writes them --------------------------------------------------------------------------------------------------
 
@@ -29,11 +30,6 @@ pub put-done : (d e : List ℕ) (at : ℕ) (v : List ℕ) (j n : ℕ) → e ≡ 
 put-done d e at v j n p q = p ∙ rw q
 
 -- What is read afterwards ----------------------------------------------------------------------------------------------------
-
-pub drop-take : (a m : ℕ) (l : List ℕ) → drop a (take (a + m) l) ≡ take m (drop a l)
-drop-take zero m l = let e : 0 + m ≡ m = omega arith in rw e
-drop-take (suc a) m [] = ap (drop (suc a)) (take-nil (suc a + m)) ∙ sym (take-nil m)
-drop-take (suc a) m (x ∷ l) = ap (λ n. drop (suc a) (take n (x ∷ l))) (suc-add a m) ∙ drop-take a m l
 
 -- a part within the first p entries does not depend on what follows them
 front : (p r r′ : List ℕ) (a k : ℕ) → a + k ≤ length p → take k (drop a (p ++ r)) ≡ take k (drop a (p ++ r′))
@@ -77,22 +73,6 @@ module _ (d v : List ℕ) (at n : ℕ) (h : at + n ≤ length d) (k : n ≤ leng
 
 -- Records --------------------------------------------------------------------------------------------------------------------
 
-module _ {A : Type 0} where
-  pub table-more : (f : ℕ → A) (k n : ℕ) → table f k (suc n) ≡ table f k n ++ (f (k + n) ∷ [])
-  unfolding table
-  table-more f k zero = ap (λ i. f i ∷ []) (omega arith)
-  table-more f k (suc n) = ap (λ l. f k ∷ l) (table-more f (suc k) n ∙ ap (λ i. table f (suc k) n ++ (f i ∷ [])) (omega arith))
-
-  pub table-same : (f g : ℕ → A) (k n : ℕ) → ((i : ℕ) → i < k + n → f i ≡ g i) → table f k n ≡ table g k n
-  unfolding table
-  table-same f g k zero h = refl
-  table-same f g k (suc n) h = rw (h k (omega arith)) (ap (λ l. g k ∷ l) (table-same f g (suc k) n (λ i l. h i (omega arith))))
-
-  pub table-length : (f : ℕ → A) (k n : ℕ) → length (table f k n) ≡ n
-  unfolding table
-  table-length f k zero = refl
-  table-length f k (suc n) = ap suc (table-length f (suc k) n)
-
 module _ (es v : List ℕ) (n count : ℕ) (h : n < 128) (el : length es ≡ 2048) (vl : length v ≡ 32) (small : count ≤ 8) where
   abbrev es′ : List ℕ
   es′ = pasted es (n * 16) (set v 12 count) 16
@@ -134,7 +114,7 @@ module _ (es v : List ℕ) (n count : ℕ) (h : n < 128) (el : length es ≡ 204
     more-exprs =
         ap (λ k. table (stored-expr es′) 0 k) (add-one n)
         ∙ table-more (stored-expr es′) 0 n
-        ∙ rw (table-same (stored-expr es′) (stored-expr es) 0 n (λ i l. old-expr i (omega arith)))
+        ∙ rw (same-table (stored-expr es′) (stored-expr es) n old-expr)
         (ap (λ e. table (stored-expr es) 0 n ++ (e ∷ [])) (ap (stored-expr es′) (omega arith) ∙ new-expr))
 
     pub exprs-formed : getD v 0 0 < 25 → getD v 1 0 ≤ 1 → getD v 2 0 ≤ 1 → (i : ℕ) → i < n + 1 → Expr-formed es′ i
@@ -159,34 +139,6 @@ module _ (es v : List ℕ) (n count : ℕ) (h : n < 128) (el : length es ≡ 204
               length-preserving = rw (old-byte (i * 16 + 2) (omega arith)) (f .length-preserving);
               count = rw (old-count i (omega arith)) (f .count);
             }
-
--- A step's record depends only on its own numbers ----------------------------------------------------------------------------
-
--- a part of the first m entries
-part-taken : (l : List ℕ) (a k m : ℕ) → a + k ≤ m → take k (drop a (take m l)) ≡ take k (drop a l)
-part-taken l a k m h =
-    let e : a + (m - a) ≡ m = omega arith in
-    ap (take k) (ap (λ j. drop a (take j l)) (sym e) ∙ drop-take a (m - a) l) ∙ take-take k (m - a) (drop a l) (omega arith)
-
-further : (l : List ℕ) (a b k m : ℕ) → b + a + k ≤ m → take k (drop a (drop b (take m l))) ≡ take k (drop a (drop b l))
-further l a b k m h = rw (drop-drop a b (take m l), drop-drop a b l) (part-taken l (b + a) k m h)
-
-pub step-take : (l : List ℕ) (m : ℕ) → 7 + (getD l 4 0 + getD l 5 0 + getD l 6 0) ≤ m → step-of (take m l) ≡ step-of l
-unfolding step-of
-step-take l m h =
-    rw (
-      step-of,
-      getD-take m l 0 0 (omega arith),
-      getD-take m l 1 0 (omega arith),
-      getD-take m l 2 0 (omega arith),
-      getD-take m l 3 0 (omega arith),
-      getD-take m l 4 0 (omega arith),
-      getD-take m l 5 0 (omega arith),
-      getD-take m l 6 0 (omega arith),
-      part-taken l 7 (getD l 4 0) m (omega arith),
-      further l (getD l 4 0) 7 (getD l 5 0) m (omega arith),
-      further l (getD l 4 0 + getD l 5 0) 7 (getD l 6 0) m (omega arith),
-    )
 
 module _ (ps v : List ℕ) (n : ℕ) (h : n < 32) (pl : length ps ≡ 1024) (vl : length v ≡ 32)
     (small1 : getD v 4 0 ≤ 8) (small2 : getD v 5 0 ≤ 8) (small3 : getD v 6 0 ≤ 8) where
@@ -235,7 +187,7 @@ module _ (ps v : List ℕ) (n : ℕ) (h : n < 32) (pl : length ps ≡ 1024) (vl 
     more-steps =
         ap (λ k. table (stored-step ps′) 0 k) (add-one n)
         ∙ table-more (stored-step ps′) 0 n
-        ∙ rw (table-same (stored-step ps′) (stored-step ps) 0 n (λ i l. old-step i (omega arith)))
+        ∙ rw (same-table (stored-step ps′) (stored-step ps) n old-step)
         (ap (λ e. table (stored-step ps) 0 n ++ (e ∷ [])) (ap (stored-step ps′) (omega arith) ∙ new-step))
 
     pub steps-formed : getD v 0 0 < 19 → (i : ℕ) → i < n + 1 → Step-formed ps′ i

@@ -5,7 +5,7 @@ use mathlib.Core.Bool.{Bool, true, false}
 use mathlib.Core.List.{List, [], _∷_}
 use mathlib.Core.Option.{Option, none, some}
 use lib.Dec.{eqb, ltb}
-use lib.ListN.{getD, length, set, replicate}
+use lib.ListN.{getD, length, set}
 use Rattle.plan.specs.Lists.{if_then_else_}
 use Rattle.plan.specs.Sheet.{parts, numbers, Line, line-of}
 use Rattle.reading.specs.Number.{number-at}
@@ -47,12 +47,9 @@ unfoldable pub field-at : List ℕ → Field
 field-at [] = Field.Broken
 field-at (x ∷ xs) = if eqb x 10 then Field.End else if eqb x 44 then field-of (number-at xs) else Field.Broken
 
-abbrev pub no-numbers : Bool → Numbers
-no-numbers b = record { ok = b; len = 0; count = 0; v = replicate 32 0 }
-
-abbrev pub pushed : Numbers → ℕ → ℕ → Numbers
-pushed f x n =
-    record { ok = f .ok; len = f .len + n; count = f .count + 1; v = if ltb (f .count) 31 then set (f .v) (f .count) x else f .v }
+-- bytes with a number at a place, if it is among the first 31
+abbrev pub placed : List ℕ → ℕ → ℕ → List ℕ
+placed v at x = if ltb at 31 then set v at x else v
 
 -- the first of a list of numbers, as far as 31 go, stand in bytes
 pub record Kept (ns v : List ℕ) : Type 0 where
@@ -60,13 +57,14 @@ pub record Kept (ns v : List ℕ) : Type 0 where
   pub first : (i : ℕ) → i < 31 → i < length ns → getD v i 0 ≡ getD ns i 0
 
 -- all the numbers were read
-pub record All-read (s : List ℕ) (r : Numbers) : Type 0 where
+pub record All-read (s : List ℕ) (r : Numbers) (v : List ℕ) : Type 0 where
   pub list : List ℕ
   pub are : numbers-of s ≡ some list
   pub count : r .count ≡ length list
-  pub kept : Kept list (r .v)
+  pub kept : Kept list v
   pub len : r .len ≡ suc (length (line s))
 
-pub record Numbers-read (s : List ℕ) (r : Numbers) : Type 0 where
-  pub good : r .ok ≡ true → All-read s r
+-- the answer for the bytes s, with the numbers in v
+pub record Numbers-read (s : List ℕ) (r : Numbers) (v : List ℕ) : Type 0 where
+  pub good : r .ok ≡ true → All-read s r v
   pub bad : r .ok ≡ false → numbers-of s ≡ none

@@ -1,9 +1,9 @@
 -- A number of a line, as the code meets it: at the front of the bytes that follow a comma.
-use Prim.Native.Nat.{ℕ, zero, suc, _+_, _*_, _-_}
+use Prim.Native.Nat.{ℕ, zero, suc, _-_}
 use mathlib.Core.Bool.{Bool, true, false, _||_}
 use mathlib.Core.List.{List, [], _∷_}
 use mathlib.Core.Option.{Option, none, some}
-use lib.Dec.{eqb, ltb, leb}
+use lib.Dec.{eqb, ltb}
 use lib.ListN.{length}
 use Rattle.plan.specs.Lists.{if_then_else_}
 use Rattle.plan.specs.Sheet.{number}
@@ -27,7 +27,7 @@ found (some v) n = Value v n
 unfoldable pub number-at : List ℕ → Number
 number-at s = found (number (field s)) (length (field s))
 
--- How the code finds it: by the first four bytes ------------------------------------------------------------------------
+-- The digits that the code meets ----------------------------------------------------------------------------------------
 
 unfoldable pub digit-of : ℕ → ℕ
 digit-of b =
@@ -38,17 +38,6 @@ unfoldable pub digit-at : List ℕ → ℕ → ℕ
 digit-at [] i = 10
 digit-at (x ∷ xs) zero = digit-of x
 digit-at (x ∷ xs) (suc i) = digit-at xs i
-
-unfoldable pub number-of : ℕ → ℕ → ℕ → ℕ → Number
-number-of a b c d =
-    if leb 10 a then Bad
-    else if eqb b 10 then Value a 1
-    else if ltb 10 b then Bad
-    else if eqb a 0 then Bad
-    else if eqb c 10 then Value (a * 10 + b) 2
-    else if ltb 10 c then Bad
-    else if eqb d 10 then (if ltb 255 (a * 100 + b * 10 + c) then Bad else Value (a * 100 + b * 10 + c) 3)
-    else Bad
 
 -- how many bytes a number is written with
 abbrev pub width : Number → ℕ

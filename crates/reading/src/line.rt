@@ -3,7 +3,7 @@ ghost use mathlib.Core.Path.{_≡_};
 ghost use Prim.Native.Nat.{_+_, _<_, _^_};
 ghost use lib.ListN.{length};
 ghost use Rattle.reading.specs.Number.{width};
-ghost use Rattle.reading.specs.Line.{field-of, field-at, no-numbers, pushed, Numbers-read};
+ghost use Rattle.reading.specs.Line.{field-of, field-at, placed, Numbers-read};
 use crate::number::Number;
 
 // What stands at the front of the bytes.
@@ -15,12 +15,11 @@ pub enum Field {
     Broken,
 }
 
-// The numbers of a line: all are counted, the first 31 kept. No line within the tables has more.
+// How many numbers a line has, and the length of all of them with byte 10.
 pub struct Numbers {
     pub ok: bool,
     pub len: usize,
     pub count: usize,
-    pub v: [u8; 32],
 }
 
 pub fn field_of(n: Number) -> Field
@@ -49,51 +48,44 @@ pub fn read_field(s: &[u8]) -> Field
     Field::Broken
 }
 
-pub fn no_numbers(ok: bool) -> Numbers
-    ensures { λ r. ⌜ r ≡ no-numbers ok ⌝ }
+// The at-th number of a line: all are counted, the first 31 kept. No line within the tables has more.
+fn keep(v: &mut [u8; 32], at: usize, x: u8)
+    ensures { λ r. ⌜ now (v .exit) ≡ placed (now (v .entry)) at x ⌝ }
 {
-    Numbers {
-        ok,
-        len: 0,
-        count: 0,
-        v: [0u8; 32],
-    }
-}
-
-// One more number, and the bytes that it took.
-pub fn push(f: Numbers, x: u8, n: usize) -> Numbers
-    requires { ⌜ (f .len + n < 2 ^ 64) × (f .count + 1 < 2 ^ 64) ⌝ }
-    ensures { λ r. ⌜ r ≡ pushed f x n ⌝ }
-{
-    let mut g = f;
-    let at = f.count;
-    g.len = f.len + n;
-    g.count = at + 1;
     if at < 31 {
-        g.v[at] = x;
-        return g;
+        v[at] = x;
     }
-    g
 }
 
-// The numbers that follow a line's letter, and the length of all of them with byte 10.
-pub fn read_numbers(s: &[u8]) -> Numbers
-    ensures { λ r. ⌜ Numbers-read (now (s .entry)) r ⌝ }
+// The numbers that follow a line's letter. They are stored as they are met: a struct that held them would be copied for each.
+pub fn read_numbers(s: &[u8], v: &mut [u8; 32]) -> Numbers
+    requires { ⌜ length (now v) ≡ 32 ⌝ }
+    ensures { λ r. ⌜ Numbers-read (now (s .entry)) r (now (v .exit)) ⌝ }
 {
-    let mut f = no_numbers(true);
+    let mut len: usize = 0;
+    let mut count: usize = 0;
     let mut rest = s;
     loop {
         match read_field(rest) {
             Field::Number(x, n) => {
-                f = push(f, x, n);
+                keep(v, count, x);
+                len += n;
+                count += 1;
                 rest = &rest[n..];
             }
             Field::End => {
-                f.len = f.len + 1;
-                return f;
+                return Numbers {
+                    ok: true,
+                    len: len + 1,
+                    count,
+                };
             }
             Field::Broken => {
-                return no_numbers(false);
+                return Numbers {
+                    ok: false,
+                    len: 0,
+                    count: 0,
+                };
             }
         }
     }

@@ -64,7 +64,8 @@ fn agg_entries(kind: u8, n3: u8) -> usize
 fn read_expr(s: &[u8], exprs: &mut [u8; 2048], t: Tally) -> Reading
     ensures { λ r. ⌜ ((ps : List ℕ) → Sound (now (exprs .entry)) ps t → Line-read (lettered (69 ∷ []) (numbers-of (now (s .entry)))) (69 ∷ now (s .entry)) (now (exprs .entry)) ps (now (exprs .exit)) ps t r) ⌝ }
 {
-    let f = crate::line::read_numbers(s);
+    let mut v = [0u8; 32];
+    let f = crate::line::read_numbers(s, &mut v);
     if !f.ok {
         return Reading::Refused(3);
     }
@@ -74,7 +75,6 @@ fn read_expr(s: &[u8], exprs: &mut [u8; 2048], t: Tally) -> Reading
     if t.steps != 0 {
         return Reading::Refused(3);
     }
-    let v = f.v;
     let count = f.count - 4;
     if !crate::tables::expr_fits(v[0], v[1], v[2], v[3], count) {
         return Reading::Refused(4);
@@ -96,14 +96,14 @@ fn read_step(s: &[u8], steps: &mut [u8; 1024], t: Tally) -> Reading
     requires { ⌜ (t .exprs + t .aggs ≤ 128) × (t .steps ≤ 32) ⌝ }
     ensures { λ r. ⌜ ((es : List ℕ) → Sound es (now (steps .entry)) t → Line-read (lettered (80 ∷ []) (numbers-of (now (s .entry)))) (80 ∷ now (s .entry)) es (now (steps .entry)) es (now (steps .exit)) t r) ⌝ }
 {
-    let f = crate::line::read_numbers(s);
+    let mut v = [0u8; 32];
+    let f = crate::line::read_numbers(s, &mut v);
     if !f.ok {
         return Reading::Refused(3);
     }
     if f.count < 7 {
         return Reading::Refused(3);
     }
-    let v = f.v;
     let count = f.count;
     if !crate::tables::step_fits(v[0], v[1], v[2], v[3], v[4], v[5], v[6], count) {
         return Reading::Refused(4);

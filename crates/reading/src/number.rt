@@ -1,7 +1,7 @@
 // A number of a line: base ten, 0 to 255, without leading zeros.
 ghost use mathlib.Core.Path.{_≡_};
 ghost use Prim.Native.Nat.{_≤_, _<_};
-ghost use Rattle.reading.specs.Number.{digit-of, digit-at, number-of, number-at};
+ghost use Rattle.reading.specs.Number.{digit-of, digit-at, number-at};
 
 pub enum Number {
     // The value, and how many bytes it is written with.
@@ -13,19 +13,19 @@ pub enum Number {
 pub fn digit_of(b: u8) -> u8
     ensures { λ r. ⌜ (r ≡ digit-of b) × (r ≤ 11) ⌝ }
 {
+    if 57 < b {
+        return 11;
+    }
+    if 48 <= b {
+        return b - 48;
+    }
     if b == 44 {
         return 10;
     }
     if b == 10 {
         return 10;
     }
-    if b < 48 {
-        return 11;
-    }
-    if 57 < b {
-        return 11;
-    }
-    b - 48
+    11
 }
 
 // The end of the bytes ends a number too.
@@ -44,28 +44,19 @@ fn wide(x: u8) -> u64
     x as u64
 }
 
-pub fn number_of(a: u8, b: u8, c: u8, d: u8) -> Number
-    requires { ⌜ (a ≤ 11) × ((b ≤ 11) × (c ≤ 11)) ⌝ }
-    ensures { λ r. ⌜ r ≡ number-of a b c d ⌝ }
+// A number of two digits or three, whose first two are a and b.
+fn read_long(s: &[u8], a: u8, b: u8) -> Number
+    requires { ⌜ ((a ≡ digit-at (now s) 0) × (b ≡ digit-at (now s) 1)) × ((0 < a) × ((a < 10) × (b < 10))) ⌝ }
+    ensures { λ r. ⌜ r ≡ number-at (now (s .entry)) ⌝ }
 {
-    if 10 <= a {
-        return Number::Bad;
-    }
-    if b == 10 {
-        return Number::Value(a, 1);
-    }
-    if 10 < b {
-        return Number::Bad;
-    }
-    if a == 0 {
-        return Number::Bad;
-    }
+    let c = digit_at(s, 2);
     if c == 10 {
         return Number::Value(a * 10 + b, 2);
     }
     if 10 < c {
         return Number::Bad;
     }
+    let d = digit_at(s, 3);
     if d != 10 {
         return Number::Bad;
     }
@@ -76,13 +67,23 @@ pub fn number_of(a: u8, b: u8, c: u8, d: u8) -> Number
     Number::Value(n as u8, 3)
 }
 
-// The number at the front of the bytes that follow a comma.
+// The number at the front of the bytes that follow a comma. Most have one digit, so no byte is looked at before it is needed.
 pub fn read_number(s: &[u8]) -> Number
     ensures { λ r. ⌜ r ≡ number-at (now (s .entry)) ⌝ }
 {
     let a = digit_at(s, 0);
+    if 10 <= a {
+        return Number::Bad;
+    }
     let b = digit_at(s, 1);
-    let c = digit_at(s, 2);
-    let d = digit_at(s, 3);
-    number_of(a, b, c, d)
+    if b == 10 {
+        return Number::Value(a, 1);
+    }
+    if 10 < b {
+        return Number::Bad;
+    }
+    if a == 0 {
+        return Number::Bad;
+    }
+    read_long(s, a, b)
 }

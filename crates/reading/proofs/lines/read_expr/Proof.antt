@@ -12,10 +12,10 @@ returns : tie.Need-returns
 returns c = λ ps snd. not-numbers _ _ _ (c .before .before .read-numbers .ensures .bad (not-true _ (c .if1 .taken)))
 
 returns-2 : tie.Need-returns-2
-returns-2 c = λ ps snd. E-few _ _ (c .before .before .before .before .read-numbers .ensures .good (not-false _ (c .before .before .if1 .left))) (omega arith) _
+returns-2 c = λ ps snd. E-few _ _ _ (c .before .before .before .before .read-numbers .ensures .good (not-false _ (c .before .before .if1 .left))) (omega arith) _
 
 returns-3 : tie.Need-returns-3
-returns-3 c = λ ps snd. E-late _ _ (c .before .before .before .before .before .before .read-numbers .ensures .good (not-false _ (c .before .before .before .before .if1 .left))) (omega arith) _ ps _ snd (c .if3 .taken)
+returns-3 c = λ ps snd. E-late _ _ _ (c .before .before .before .before .before .before .read-numbers .ensures .good (not-false _ (c .before .before .before .before .if1 .left))) (omega arith) _ ps _ snd (c .if3 .taken)
 
 array-read-expr-fits : tie.Need-array-read-expr-fits
 array-read-expr-fits c = search needs
@@ -33,10 +33,10 @@ expr-fits-requires : tie.Need-expr-fits-requires
 expr-fits-requires c κs = search needs
 
 returns-4 : tie.Need-returns-4
-returns-4 c = λ ps snd. E-not _ _ (c .before .before .before .before .before .before .before .before .before .before .read-numbers .ensures .good (not-false _ (c .before .before .before .before .before .before .before .before .if1 .left))) (omega arith) _ ps _ snd (omega arith) _ (c .before .expr-fits .ensures .0) (not-true _ (c .if4 .taken))
+returns-4 c = λ ps snd. E-not _ _ _ (c .before .before .before .before .before .before .before .before .before .read-numbers .ensures .good (not-false _ (c .before .before .before .before .before .before .before .if1 .left))) (omega arith) _ ps _ snd (omega arith) _ (c .before .expr-fits .ensures .0) (not-true _ (c .if4 .taken))
 
 returns-5 : tie.Need-returns-5
-returns-5 c = λ ps snd. E-full _ _ (c .before .before .before .before .before .before .before .before .before .before .before .before .read-numbers .ensures .good (not-false _ (c .before .before .before .before .before .before .before .before .before .before .if1 .left))) (omega arith) _ ps _ snd (omega arith) _ (c .before .before .before .expr-fits .ensures .0) (not-false _ (c .before .before .if4 .left)) (omega arith)
+returns-5 c = λ ps snd. E-full _ _ _ (c .before .before .before .before .before .before .before .before .before .before .before .read-numbers .ensures .good (not-false _ (c .before .before .before .before .before .before .before .before .before .if1 .left))) (omega arith) _ ps _ snd (omega arith) _ (c .before .before .before .expr-fits .ensures .0) (not-false _ (c .before .before .if4 .left)) (omega arith)
 
 cast-store-expr : tie.Need-cast-store-expr
 cast-store-expr c = omega (arith, c .before .before .before .before .expr-fits .ensures .1 (not-false _ (c .before .before .before .if4 .left)))
@@ -44,15 +44,15 @@ cast-store-expr c = omega (arith, c .before .before .before .before .expr-fits .
 store-expr-requires : tie.Need-store-expr-requires
 store-expr-requires c κs = omega (arith, c .before .before .before .before .expr-fits .ensures .1 (not-false _ (c .before .before .before .if4 .left)))
 
-add-t25 : tie.Need-add-t25
-add-t25 c = search needs
+add-t26 : tie.Need-add-t26
+add-t26 c = search needs
 
-add-t25-2 : tie.Need-add-t25-2
-add-t25-2 c = omega (arith, (c .before .before .before .before .before .before .before .before .before .before .before .before .before .before .before .before .read-numbers .ensures .good (not-false _ (c .before .before .before .before .before .before .before .before .before .before .before .before .before .before .if1 .left))) .len, line-length (c .before .before .before .before .before .before .before .before .before .before .before .before .before .before .before .before .before .before .args .s .now), c .before .before .before .before .before .before .before .before .before .before .before .before .before .before .before .before .before .before .good .0 .1)
+add-t26-2 : tie.Need-add-t26-2
+add-t26-2 c = omega (arith, (c .before .before .before .before .before .before .before .before .before .before .before .before .before .before .before .read-numbers .ensures .good (not-false _ (c .before .before .before .before .before .before .before .before .before .before .before .before .before .if1 .left))) .len, line-length (c .before .before .before .before .before .before .before .before .before .before .before .before .before .before .before .before .before .before .args .s .now), c .before .before .before .before .before .before .before .before .before .before .before .before .before .before .before .before .before .before .good .0 .1)
 
 returns-6 : tie.Need-returns-6
 returns-6 c = λ ps snd.
-    E-taken _ _ (c .before .before .before .before .before .before .before .before .before .before .before .before .before .before .before .before .read-numbers .ensures .good (not-false _ (c .before .before .before .before .before .before .before .before .before .before .before .before .before .before .if1 .left))) (omega arith) _ ps _ snd (omega arith) _ (c .before .before .before .before .before .before .before .expr-fits .ensures .0) (not-false _ (c .before .before .before .before .before .before .if4 .left)) _ (omega arith)
+    E-taken _ _ _ (c .before .before .before .before .before .before .before .before .before .before .before .before .before .before .before .read-numbers .ensures .good (not-false _ (c .before .before .before .before .before .before .before .before .before .before .before .before .before .if1 .left))) (omega arith) _ ps _ snd (omega arith) _ (c .before .before .before .before .before .before .before .expr-fits .ensures .0) (not-false _ (c .before .before .before .before .before .before .if4 .left)) _ (omega arith)
     (c .before .before .before .before .before .before .before .expr-fits .ensures .1 (not-false _ (c .before .before .before .before .before .before .if4 .left))) (c .before .before .store-expr .ensures .1) (c .before .before .store-expr .ensures .0)
 
 pub read-expr-spec : {M : Type 1} → statement M
@@ -72,6 +72,6 @@ read-expr-spec =
     returns-5
     cast-store-expr
     store-expr-requires
-    add-t25
-    add-t25-2
+    add-t26
+    add-t26-2
     returns-6)

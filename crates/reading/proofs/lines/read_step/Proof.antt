@@ -12,7 +12,7 @@ returns : tie.Need-returns
 returns c = λ es snd. not-numbers _ _ _ (c .before .before .read-numbers .ensures .bad (not-true _ (c .if1 .taken)))
 
 returns-2 : tie.Need-returns-2
-returns-2 c = λ es snd. P-few _ _ (c .before .before .before .before .read-numbers .ensures .good (not-false _ (c .before .before .if1 .left))) (omega arith) _
+returns-2 c = λ es snd. P-few _ _ _ (c .before .before .before .before .read-numbers .ensures .good (not-false _ (c .before .before .if1 .left))) (omega arith) _
 
 array-read-step-fits : tie.Need-array-read-step-fits
 array-read-step-fits c = search needs
@@ -39,10 +39,10 @@ step-fits-requires : tie.Need-step-fits-requires
 step-fits-requires c κs = search needs
 
 returns-3 : tie.Need-returns-3
-returns-3 c = λ es snd. P-not _ _ (c .before .before .before .before .before .before .before .read-numbers .ensures .good (not-false _ (c .before .before .before .before .before .if1 .left))) (omega arith) es _ _ snd _ (c .before .step-fits .ensures .0) (not-true _ (c .if3 .taken))
+returns-3 c = λ es snd. P-not _ _ _ (c .before .before .before .before .before .before .read-numbers .ensures .good (not-false _ (c .before .before .before .before .if1 .left))) (omega arith) es _ _ snd _ (c .before .step-fits .ensures .0) (not-true _ (c .if3 .taken))
 
 returns-4 : tie.Need-returns-4
-returns-4 c = λ es snd. P-full _ _ (c .before .before .before .before .before .before .before .before .before .read-numbers .ensures .good (not-false _ (c .before .before .before .before .before .before .before .if1 .left))) (omega arith) es _ _ snd _ (c .before .before .before .step-fits .ensures .0) (not-false _ (c .before .before .if3 .left)) (omega arith)
+returns-4 c = λ es snd. P-full _ _ _ (c .before .before .before .before .before .before .before .before .read-numbers .ensures .good (not-false _ (c .before .before .before .before .before .before .if1 .left))) (omega arith) es _ _ snd _ (c .before .before .before .step-fits .ensures .0) (not-false _ (c .before .before .if3 .left)) (omega arith)
 
 array-read-agg-entries : tie.Need-array-read-agg-entries
 array-read-agg-entries c = search needs
@@ -60,20 +60,20 @@ add-if5 : tie.Need-add-if5
 add-if5 c = search needs
 
 returns-5 : tie.Need-returns-5
-returns-5 c = λ es snd. P-over _ _ (c .before .before .before .before .before .before .before .before .before .before .before .before .before .read-numbers .ensures .good (not-false _ (c .before .before .before .before .before .before .before .before .before .before .before .if1 .left))) (omega arith) es _ _ snd _ (c .before .before .before .before .before .before .before .step-fits .ensures .0) (not-false _ (c .before .before .before .before .before .before .if3 .left)) _ (c .before .before .before .agg-entries .ensures .0) (omega arith)
+returns-5 c = λ es snd. P-over _ _ _ (c .before .before .before .before .before .before .before .before .before .before .before .before .read-numbers .ensures .good (not-false _ (c .before .before .before .before .before .before .before .before .before .before .if1 .left))) (omega arith) es _ _ snd _ (c .before .before .before .before .before .before .before .step-fits .ensures .0) (not-false _ (c .before .before .before .before .before .before .if3 .left)) _ (c .before .before .before .agg-entries .ensures .0) (omega arith)
 
 store-step-requires : tie.Need-store-step-requires
 store-step-requires c κs = search needs
 
-add-t32 : tie.Need-add-t32
-add-t32 c = search needs
+add-t33 : tie.Need-add-t33
+add-t33 c = search needs
 
-add-t32-2 : tie.Need-add-t32-2
-add-t32-2 c = omega (arith, (c .before .before .before .before .before .before .before .before .before .before .before .before .before .before .before .before .before .read-numbers .ensures .good (not-false _ (c .before .before .before .before .before .before .before .before .before .before .before .before .before .before .before .if1 .left))) .len, line-length (c .before .before .before .before .before .before .before .before .before .before .before .before .before .before .before .before .before .before .before .args .s .now), c .before .before .before .before .before .before .before .before .before .before .before .before .before .before .before .before .before .before .before .good .0 .1)
+add-t33-2 : tie.Need-add-t33-2
+add-t33-2 c = omega (arith, (c .before .before .before .before .before .before .before .before .before .before .before .before .before .before .before .before .read-numbers .ensures .good (not-false _ (c .before .before .before .before .before .before .before .before .before .before .before .before .before .before .if1 .left))) .len, line-length (c .before .before .before .before .before .before .before .before .before .before .before .before .before .before .before .before .before .before .before .args .s .now), c .before .before .before .before .before .before .before .before .before .before .before .before .before .before .before .before .before .before .before .good .0 .1)
 
 returns-6 : tie.Need-returns-6
 returns-6 c = λ es snd.
-    P-taken _ _ (c .before .before .before .before .before .before .before .before .before .before .before .before .before .before .before .before .before .read-numbers .ensures .good (not-false _ (c .before .before .before .before .before .before .before .before .before .before .before .before .before .before .before .if1 .left))) (omega arith) es _ _ snd _ (c .before .before .before .before .before .before .before .before .before .before .before .step-fits .ensures .0) (not-false _ (c .before .before .before .before .before .before .before .before .before .before .if3 .left)) _ (c .before .before .before .before .before .before .before .agg-entries .ensures .0) _ (omega arith) (omega arith)
+    P-taken _ _ _ (c .before .before .before .before .before .before .before .before .before .before .before .before .before .before .before .before .read-numbers .ensures .good (not-false _ (c .before .before .before .before .before .before .before .before .before .before .before .before .before .before .if1 .left))) (omega arith) es _ _ snd _ (c .before .before .before .before .before .before .before .before .before .before .before .step-fits .ensures .0) (not-false _ (c .before .before .before .before .before .before .before .before .before .before .if3 .left)) _ (c .before .before .before .before .before .before .before .agg-entries .ensures .0) _ (omega arith) (omega arith)
     (c .before .before .before .before .before .before .before .before .before .before .before .step-fits .ensures .1 (not-false _ (c .before .before .before .before .before .before .before .before .before .before .if3 .left))) (c .before .before .store-step .ensures .1) (c .before .before .store-step .ensures .0)
 
 pub read-step-spec : {M : Type 1} → statement M
@@ -100,6 +100,6 @@ read-step-spec =
     add-if5
     returns-5
     store-step-requires
-    add-t32
-    add-t32-2
+    add-t33
+    add-t33-2
     returns-6)
