@@ -7,3 +7,4 @@ pub mod States
 pub mod Ways
 pub mod Children
 pub mod Projections
+pub mod Asked
