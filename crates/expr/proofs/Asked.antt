@@ -1,18 +1,28 @@
 -- What a list of expressions asks, of records that were read from a well-formed sheet or are formed like such.
-use mathlib.Core.Path.{_≡_, sym, subst}
-use Prim.Native.Nat.{ℕ, _*_, _≤_, _<_}
-use mathlib.Core.List.{List}
+use mathlib.Core.Path.{_≡_, sym, _∙_, subst}
+use Prim.Native.Nat.{ℕ, _*_, _≤_, _<_, _^_}
+use native.Mathlib.Omega.{arith}
+use mathlib.Core.Bool.{Bool}
+use mathlib.Core.List.{List, List·Memᴰ}
 use lib.Dec.{T}
-use lib.ListN.{length}
+use lib.ListN.{length, take, length-take}
 use Rattle.plan.specs.Sheet.{Sheet, no-expr, expr-at}
 use Rattle.plan.specs.Stored.{stored-expr, stored-exprs, Expr-formed}
 use Rattle.plan.specs.StoredLaws.{table-at, length-table}
 use Rattle.claims.specs.WellFormed.{WellFormed}
 use Rattle.claims.proofs.Counts.{mem-at}
+use Rattle.claims.proofs.Every.{place-of}
 use Rattle.claims.proofs.Changes.{Fits}
 use Rattle.claims.proofs.Changes as claims
 use Rattle.claims.proofs.Once.{formed-at-start}
-use Rattle.expr.specs.State.{Based}
+use Rattle.claims.proofs.ListFits.{list-fits}
+use Rattle.expr.specs.declared.look.Eos.{Eos}
+use Rattle.expr.specs.declared.look.Tally.{Tally}
+use Rattle.expr.specs.State.{eos-of, Falls, Based}
+use Rattle.expr.specs.Projected.{Started, ListAsks}
+use Rattle.expr.specs.Start.{Own-lines, None-off}
+use Rattle.expr.proofs.Starts.{arena-at-start}
+use Rattle.expr.proofs.Starts as starts
 
 -- The stored records -------------------------------------------------------------------------------------------------------------
 
@@ -39,3 +49,24 @@ module _ (recs : List ℕ) (n : ℕ) (few : n ≤ 128) (room : n * 16 ≤ length
 
   pub based-of-sheet : (sh : Sheet) → WellFormed sh → stored-exprs recs n ≡ sh .exprs → Based recs n
   based-of-sheet sh wf e = based-of-formed (subst claims.Formed (sym e) (formed-at-start sh wf))
+
+  -- A list before anything is changed --------------------------------------------------------------------------------------------
+
+  pub asks-at-start : (sh : Sheet) → WellFormed sh → stored-exprs recs n ≡ sh .exprs
+      → (line : List ℕ) (off : List Bool) (tally : Tally) (s : Eos) → Own-lines line → None-off off → Started line off tally s → tally .looks < 2 ^ 63
+      → (nodes : List ℕ) (count : ℕ) (allow : Bool) → count ≤ 8 → length nodes ≡ 8 → Falls n (take count nodes)
+      → ListAsks recs n s nodes count allow
+  asks-at-start sh wf e line off tally s own on k start nodes count allow short eight falls =
+      let size : length (sh .exprs) ≡ n = subst (λ es. length es ≡ n) e (length-stored recs n) in
+      let arena : eos-of recs n s .expr-arena ≡ sh .exprs = rw (k .is recs n) (arena-at-start recs n few line off own on ∙ e) in
+      let looks : eos-of recs n s .looks < 2 ^ 63 = rw (k .is recs n) start in
+      let there : (q : ℕ) → List·Memᴰ q (take count nodes) → q < length (sh .exprs) =
+      λ q m. let (i, h, j) = place-of (take count nodes) 0 q m in rw size (subst (λ c. c < n) j (falls .child i h)) in
+      record {
+        based = based-of-sheet sh wf e;
+        formed = starts.formed-at-start recs n few line off own on tally s k;
+        few = short;
+        room = eight;
+        falls = falls;
+        fits = list-fits sh wf (take count nodes) allow (eos-of recs n s) arena looks (rw size few) (simp length-take (omega (arith, short, eight))) there;
+      }
