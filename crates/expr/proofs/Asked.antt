@@ -50,23 +50,37 @@ module _ (recs : List ℕ) (n : ℕ) (few : n ≤ 128) (room : n * 16 ≤ length
   pub based-of-sheet : (sh : Sheet) → WellFormed sh → stored-exprs recs n ≡ sh .exprs → Based recs n
   based-of-sheet sh wf e = based-of-formed (subst claims.Formed (sym e) (formed-at-start sh wf))
 
-  -- A list before anything is changed --------------------------------------------------------------------------------------------
+-- A list before anything is changed ----------------------------------------------------------------------------------------------
 
-  pub asks-at-start : (sh : Sheet) → WellFormed sh → stored-exprs recs n ≡ sh .exprs
-      → (line : List ℕ) (off : List Bool) (tally : Tally) (s : Eos) → Own-lines line → None-off off → Started line off tally s → tally .looks < 2 ^ 63
-      → (nodes : List ℕ) (count : ℕ) (allow : Bool) → count ≤ 8 → length nodes ≡ 8 → Falls n (take count nodes)
+-- the n stored records are those of a well-formed sheet
+pub record Read-exprs (recs : List ℕ) (n : ℕ) : Type 0 where
+  pub few : n ≤ 128
+  pub room : n * 16 ≤ length recs
+  pub each : (l : ℕ) → l < n → Expr-formed recs l
+  pub sheet : Sheet
+  pub well-formed : WellFormed sheet
+  pub same : stored-exprs recs n ≡ sheet .exprs
+
+module _ (recs : List ℕ) (n : ℕ) (k : Read-exprs recs n) (line : List ℕ) (off : List Bool) (tally : Tally) (s : Eos) (own : Own-lines line) (on : None-off off) (started : Started line off tally s) (start : tally .looks < 2 ^ 63) where
+  size : length (k .sheet .exprs) ≡ n
+  size = subst (λ es. length es ≡ n) (k .same) (length-stored recs n)
+
+  arena : eos-of recs n s .expr-arena ≡ k .sheet .exprs
+  arena = rw (started .is recs n) (arena-at-start recs n (k .few) line off own on ∙ k .same)
+
+  -- of any records, at most eight
+  pub asks-at-start : (nodes : List ℕ) (count : ℕ) (allow : Bool) → count ≤ 8 → length nodes ≡ 8 → Falls n (take count nodes)
       → ListAsks recs n s nodes count allow
-  asks-at-start sh wf e line off tally s own on k start nodes count allow short eight falls =
-      let size : length (sh .exprs) ≡ n = subst (λ es. length es ≡ n) e (length-stored recs n) in
-      let arena : eos-of recs n s .expr-arena ≡ sh .exprs = rw (k .is recs n) (arena-at-start recs n few line off own on ∙ e) in
-      let looks : eos-of recs n s .looks < 2 ^ 63 = rw (k .is recs n) start in
-      let there : (q : ℕ) → List·Memᴰ q (take count nodes) → q < length (sh .exprs) =
+  asks-at-start nodes count allow short eight falls =
+      let there : (q : ℕ) → List·Memᴰ q (take count nodes) → q < length (k .sheet .exprs) =
       λ q m. let (i, h, j) = place-of (take count nodes) 0 q m in rw size (subst (λ c. c < n) j (falls .child i h)) in
       record {
-        based = based-of-sheet sh wf e;
-        formed = starts.formed-at-start recs n few line off own on tally s k;
+        based = based-of-sheet recs n (k .few) (k .room) (k .each) (k .sheet) (k .well-formed) (k .same);
+        formed = starts.formed-at-start recs n (k .few) line off own on tally s started;
         few = short;
         room = eight;
         falls = falls;
-        fits = list-fits sh wf (take count nodes) allow (eos-of recs n s) arena looks (rw size few) (simp length-take (omega (arith, short, eight))) there;
+        fits =
+            list-fits (k .sheet) (k .well-formed) (take count nodes) allow (eos-of recs n s) arena
+            (rw (started .is recs n) start) (rw size (k .few)) (simp length-take (omega (arith, short, eight))) there;
       }
