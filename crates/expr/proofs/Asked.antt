@@ -55,13 +55,12 @@ module _ (recs : List ℕ) (n : ℕ) (few : n ≤ 128) (room : n * 16 ≤ length
 -- the n stored records are those of a well-formed sheet
 pub record Read-exprs (recs : List ℕ) (n : ℕ) : Type 0 where
   pub few : n ≤ 128
-  pub room : n * 16 ≤ length recs
   pub each : (l : ℕ) → l < n → Expr-formed recs l
   pub sheet : Sheet
   pub well-formed : WellFormed sheet
   pub same : stored-exprs recs n ≡ sheet .exprs
 
-module _ (recs : List ℕ) (n : ℕ) (k : Read-exprs recs n) (line : List ℕ) (off : List Bool) (tally : Tally) (s : Eos) (own : Own-lines line) (on : None-off off) (started : Started line off tally s) (start : tally .looks < 2 ^ 63) where
+module _ (recs : List ℕ) (n : ℕ) (k : Read-exprs recs n) (room : n * 16 ≤ length recs) (line : List ℕ) (off : List Bool) (tally : Tally) (s : Eos) (own : Own-lines line) (on : None-off off) (started : Started line off tally s) (start : tally .looks < 2 ^ 63) where
   size : length (k .sheet .exprs) ≡ n
   size = subst (λ es. length es ≡ n) (k .same) (length-stored recs n)
 
@@ -75,7 +74,7 @@ module _ (recs : List ℕ) (n : ℕ) (k : Read-exprs recs n) (line : List ℕ) (
       let there : (q : ℕ) → List·Memᴰ q (take count nodes) → q < length (k .sheet .exprs) =
       λ q m. let (i, h, j) = place-of (take count nodes) 0 q m in rw size (subst (λ c. c < n) j (falls .child i h)) in
       record {
-        based = based-of-sheet recs n (k .few) (k .room) (k .each) (k .sheet) (k .well-formed) (k .same);
+        based = based-of-sheet recs n (k .few) room (k .each) (k .sheet) (k .well-formed) (k .same);
         formed = starts.formed-at-start recs n (k .few) line off own on tally s started;
         few = short;
         room = eight;
