@@ -37,6 +37,7 @@ pub mod Fuel
 pub mod Scalars
 pub mod ArenaLimit
 pub mod RunLimits
+pub mod ListFits
 pub mod TextLength
 pub mod Every
 pub mod Printable

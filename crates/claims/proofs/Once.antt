@@ -114,14 +114,14 @@ module _ (sh : Sheet) (wf : WellFormed sh) where
         | inr k₁ ↦ let (i, h, k₂) = mem-concat entries (sh .steps) no-step m k₁ in entry-inside i m h k₂
       ]
 
-  named-once : (i : ℕ) → i < length (sh .exprs) → times i (exprs-named sh) ≤ 1
+  pub named-once : (i : ℕ) → i < length (sh .exprs) → times i (exprs-named sh) ≡ 1
   unfolding uses-right
   named-once i h =
       let a = all? (λ (i, e). eqb (times i (exprs-named sh)) 1) (numbered 0 (sh .exprs)) in
       let b = all? (λ (n, s). use-right (s .kind) (times n (named (sh .steps)))) (numbered 0 (sh .steps)) in
       let c = all? (λ id. eqb (times id (cache-ids (sh .steps))) 1) (cache-ids (sh .steps)) in
       let t = entry-at (λ (i, e). eqb (times i (exprs-named sh)) 1) (sh .exprs) no-expr (and-left a b (and-left (a && b) c (wf .uses))) i h in
-      omega (arith, eqb→eq (times i (exprs-named sh)) 1 t)
+      eqb→eq (times i (exprs-named sh)) 1 t
 
   pub once-at-start : Once (sh .exprs) (sh .steps)
   unfolding exprs-named
@@ -132,7 +132,7 @@ module _ (sh : Sheet) (wf : WellFormed sh) where
       let children = concat-map (λ (e : Expr). e .children) es in
       omega (
         arith,
-        no-more L n (exprs-named sh) named-inside named-once,
+        no-more L n (exprs-named sh) named-inside (λ i h. omega (arith, named-once i h)),
         sum-append L children (concat-map entries (sh .steps)),
         sum-concat L entries (sh .steps),
         sum-concat L (λ (e : Expr). e .children) es,

@@ -32,7 +32,7 @@ use Rattle.claims.proofs.ArenaLimit.{room-settled}
 
 -- Looks of a visit -------------------------------------------------------------------------------------------------------------
 
-below-ones : (n : ℕ) → sum-below (λ _. 1) n ≡ n
+pub below-ones : (n : ℕ) → sum-below (λ _. 1) n ≡ n
 unfolding sum-below
 below-ones zero = refl
 below-ones (suc n) = omega (arith, below-ones n)

@@ -6,4 +6,6 @@ pub mod Along
 pub mod States
 pub mod Ways
 pub mod Children
+pub mod Starts
 pub mod Projections
+pub mod Asked

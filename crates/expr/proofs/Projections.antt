@@ -27,20 +27,16 @@ use Rattle.expr.specs.Tables.{row-of, before-of}
 use Rattle.expr.specs.Contract.{looked-of, LookAsks, LookGives, Answers, along-from, AlongAsks, IsWalk, AlongGives}
 use Rattle.expr.specs.Projected.{Started, list-record, ListAsks, ListGives}
 use Rattle.expr.proofs.View.{arena-length}
+use Rattle.expr.proofs.Starts.{all-same}
 use Rattle.expr.proofs.States.{kept-trans, formed-kept, answering, kept-answering, eos-answering}
 use Rattle.expr.proofs.Laws.{up-look}
 use Rattle.expr.proofs.Ways.{begun-none}
 
 -- The start of a visit -----------------------------------------------------------------------------------------------------------
 
-zeros : (m q : ℕ) → getD {A = ℕ} (replicate m 0) q 0 ≡ 0
-zeros zero q = refl
-zeros (suc m) zero = refl
-zeros (suc m) (suc q) = zeros m q
-
 no-entries : cache-of (replicate 128 0) ≡ (λ _. none)
 unfolding cache-of
-no-entries = fun-ext (λ q. rw (zeros 128 q))
+no-entries = fun-ext (λ q. rw (all-same {A = ℕ} 128 q 0))
 
 opened : (recs : List ℕ) (n : ℕ) (line : List ℕ) (off : List Bool) (tally : Tally)
     → eos-of recs n (record { line = line; off = off; cache = replicate 128 0; field = ∅; observed = ∅; tally = tally; answer = ∅ })

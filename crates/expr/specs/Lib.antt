@@ -6,3 +6,4 @@ pub mod State
 pub mod StateLaws
 pub mod Contract
 pub mod Projected
+pub mod Start

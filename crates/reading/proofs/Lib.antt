@@ -11,3 +11,4 @@ pub mod Names
 pub mod Members
 pub mod Marking
 pub mod Plans
+pub mod Accepted

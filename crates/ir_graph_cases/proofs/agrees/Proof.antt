@@ -1,4 +1,5 @@
-use Rattle.ir_graph_cases.proofs.Accepted.{accepted, held}
+use Rattle.ir_graph_cases.proofs.Accepted.{steps-plan}
+use Rattle.reading.proofs.Accepted.{read-plan}
 use borrow.Author.Needs.{needs}
 use Rattle.ir_graph_cases.proofs.agrees.Statement.{statement}
 use Rattle.ir_graph_cases.proofs.agrees.Tie as tie
@@ -19,9 +20,8 @@ enum-known-c c = search needs
 graph-agrees-requires : tie.Need-graph-agrees-requires
 graph-agrees-requires c κs =
     let r = c .before .before .before .before .read-plan in
-    let e = c .before .before .c .given .1 in
-    let h = held (c .before .before .before .before .before .before .before .before .before .before .args .sheet .now) (r .last .1 .0) (r .last .1 .1 .0) _ _ e (r .ensures .1) in
-    (h .few, (accepted (c .before .before .before .before .before .before .before .before .before .before .args .sheet .now) (r .last .1 .0) (r .last .1 .1 .0) _ _ e (r .ensures .0), λ i l. h .each i l .formed))
+    let k = read-plan _ _ _ _ _ (c .before .before .c .given .1) (r .ensures .0) (r .ensures .1) in
+    (k .steps-held .few, (steps-plan _ _ _ _ k, λ i l. k .steps-held .each i l .formed))
 
 returns : tie.Need-returns
 returns c = search needs

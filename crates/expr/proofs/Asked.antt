@@ -1,0 +1,85 @@
+-- What a list of expressions asks, of records that were read from a well-formed sheet or are formed like such.
+use mathlib.Core.Path.{_≡_, sym, _∙_, subst}
+use Prim.Native.Nat.{ℕ, _*_, _≤_, _<_, _^_}
+use native.Mathlib.Omega.{arith}
+use mathlib.Core.Bool.{Bool}
+use mathlib.Core.List.{List, List·Memᴰ}
+use lib.Dec.{T}
+use lib.ListN.{length, take, length-take}
+use Rattle.plan.specs.Sheet.{Sheet, no-expr, expr-at}
+use Rattle.plan.specs.Stored.{stored-expr, stored-exprs, Expr-formed}
+use Rattle.plan.specs.StoredLaws.{table-at, length-table}
+use Rattle.claims.specs.WellFormed.{WellFormed}
+use Rattle.claims.proofs.Counts.{mem-at}
+use Rattle.claims.proofs.Every.{place-of}
+use Rattle.claims.proofs.Changes.{Fits}
+use Rattle.claims.proofs.Changes as claims
+use Rattle.claims.proofs.Once.{formed-at-start}
+use Rattle.claims.proofs.ListFits.{list-fits}
+use Rattle.expr.specs.declared.look.Eos.{Eos}
+use Rattle.expr.specs.declared.look.Tally.{Tally}
+use Rattle.expr.specs.State.{eos-of, Falls, Based}
+use Rattle.expr.specs.Projected.{Started, ListAsks}
+use Rattle.expr.specs.Start.{Own-lines, None-off}
+use Rattle.expr.proofs.Starts.{arena-at-start}
+use Rattle.expr.proofs.Starts as starts
+
+-- The stored records -------------------------------------------------------------------------------------------------------------
+
+pub length-stored : (recs : List ℕ) (n : ℕ) → length (stored-exprs recs n) ≡ n
+unfolding stored-exprs
+length-stored recs n = length-table (stored-expr recs) 0 n
+
+pub stored-at : (recs : List ℕ) (n l : ℕ) → l < n → expr-at (stored-exprs recs n) l ≡ stored-expr recs l
+unfolding stored-exprs
+stored-at recs n l h = table-at (stored-expr recs) n l no-expr h
+
+module _ (recs : List ℕ) (n : ℕ) (few : n ≤ 128) (room : n * 16 ≤ length recs) (each : (l : ℕ) → l < n → Expr-formed recs l) where
+  -- children are earlier, and a sort has one
+  pub based-of-formed : claims.Formed (stored-exprs recs n) → Based recs n
+  based-of-formed formed =
+      let fits : (l : ℕ) → l < n → Fits l (stored-expr recs l) = λ l h. subst (Fits l) (stored-at recs n l h) (formed l) in
+      record {
+        few = few;
+        room = room;
+        formed = each;
+        falls = λ l h. record { child = λ k b. fits l h .earlier _ (mem-at (stored-expr recs l .children) k 0 b) };
+        sorted = λ l h s. fits l h .input (subst T (sym s) tt);
+      }
+
+  pub based-of-sheet : (sh : Sheet) → WellFormed sh → stored-exprs recs n ≡ sh .exprs → Based recs n
+  based-of-sheet sh wf e = based-of-formed (subst claims.Formed (sym e) (formed-at-start sh wf))
+
+-- A list before anything is changed ----------------------------------------------------------------------------------------------
+
+-- the n stored records are those of a well-formed sheet
+pub record Read-exprs (recs : List ℕ) (n : ℕ) : Type 0 where
+  pub few : n ≤ 128
+  pub each : (l : ℕ) → l < n → Expr-formed recs l
+  pub sheet : Sheet
+  pub well-formed : WellFormed sheet
+  pub same : stored-exprs recs n ≡ sheet .exprs
+
+module _ (recs : List ℕ) (n : ℕ) (k : Read-exprs recs n) (room : n * 16 ≤ length recs) (line : List ℕ) (off : List Bool) (tally : Tally) (s : Eos) (own : Own-lines line) (on : None-off off) (started : Started line off tally s) (start : tally .looks < 2 ^ 63) where
+  size : length (k .sheet .exprs) ≡ n
+  size = subst (λ es. length es ≡ n) (k .same) (length-stored recs n)
+
+  arena : eos-of recs n s .expr-arena ≡ k .sheet .exprs
+  arena = rw (started .is recs n) (arena-at-start recs n (k .few) line off own on ∙ k .same)
+
+  -- of any records, at most eight
+  pub asks-at-start : (nodes : List ℕ) (count : ℕ) (allow : Bool) → count ≤ 8 → length nodes ≡ 8 → Falls n (take count nodes)
+      → ListAsks recs n s nodes count allow
+  asks-at-start nodes count allow short eight falls =
+      let there : (q : ℕ) → List·Memᴰ q (take count nodes) → q < length (k .sheet .exprs) =
+      λ q m. let (i, h, j) = place-of (take count nodes) 0 q m in rw size (subst (λ c. c < n) j (falls .child i h)) in
+      record {
+        based = based-of-sheet recs n (k .few) room (k .each) (k .sheet) (k .well-formed) (k .same);
+        formed = starts.formed-at-start recs n (k .few) line off own on tally s started;
+        few = short;
+        room = eight;
+        falls = falls;
+        fits =
+            list-fits (k .sheet) (k .well-formed) (take count nodes) allow (eos-of recs n s) arena
+            (rw (started .is recs n) start) (rw size (k .few)) (simp length-take (omega (arith, short, eight))) there;
+      }

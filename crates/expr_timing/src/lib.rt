@@ -1,0 +1,40 @@
+// One list of one expression, called from Rust to be timed.
+ghost use Prim.Native.Nat.{_<_};
+ghost use Rattle.expr.proofs.Asked.{Read-exprs};
+use expr::look::Tally;
+use expr::projected::expr_order_simplifier;
+use expr::projected::simplify_projected_exprs;
+use expr::sizes::size_2048;
+use expr::start::none_off;
+use expr::start::own_lines;
+
+// The looks at the list of the root alone, from the state that a run starts with.
+#[no_mangle]
+pub extern "C" fn list_looks(
+    recs: &[u8; 2048],
+    n: usize,
+    root: u8,
+    allow_deordering_top: bool,
+) -> u64
+    requires { ⌜ Read-exprs (now recs) n × (root < n) ⌝ }
+{
+    size_2048(recs);
+    let start = expr_order_simplifier(
+        own_lines(),
+        none_off(),
+        Tally {
+            visits: 0,
+            looks: 0,
+        },
+    );
+    let s = simplify_projected_exprs(
+        recs,
+        n,
+        start,
+        [root, 0, 0, 0, 0, 0, 0, 0],
+        1,
+        allow_deordering_top,
+    );
+    let tally = s.tally;
+    tally.looks
+}
