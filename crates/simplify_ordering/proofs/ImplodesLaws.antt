@@ -6,9 +6,11 @@ use mathlib.Core.Bool.{Bool, true, false}
 use mathlib.Core.List.{List, [], _∷_, _++_, append-assoc, append-nil}
 use lib.ListN.{length, getD, set, drop, length-append, length-drop, drop-of-length-le}
 use lib.Seq.{drop-cons, getD-set-same, set-getD, set-set, set-at, getD-at}
+use Rattle.plan.specs.declared.ir.IR.{IR}
+use Rattle.plan.specs.Kinds.{same-ir}
 use Rattle.plan.specs.Lists.{if_then_else_}
 use Rattle.plan.specs.Sheet.{Expr, Step, no-step, expr-at, step-at}
-use Rattle.plan.specs.Visit.{implode, imploded, implode-over, with-aggs}
+use Rattle.plan.specs.Visit.{implode, imploded, with-implodes, implode-over, with-aggs}
 use Rattle.simplify_ordering.specs.Held.{with-agg}
 
 -- appending only makes the arena longer
@@ -24,6 +26,14 @@ longer : (qs : List ℕ) (es : List Expr) → length es ≤ length (imploded qs 
 unfolding imploded
 longer [] es = omega arith
 longer (q ∷ qs) es = omega (arith, longer-one q es, longer qs (implode q es .1))
+
+pub longer-start : (s : Step) (es : List Expr) → length es ≤ length (with-implodes s es .1)
+unfolding with-implodes
+longer-start s es = by (same-ir (s .kind) IR.GroupBy)
+  where
+    by : (b : Bool) → let r : List ℕ × List Expr = if b then imploded (s .aggs) es else (s .aggs, es) in length es ≤ length (r .1)
+    by true = longer (s .aggs) es
+    by false = omega arith
 
 -- qs, es and ps are the list, the arena and the steps before; es′ and ps′ those after k entries
 pub record Imploding (i : ℕ) (qs : List ℕ) (es : List Expr) (ps : List Step) (k : ℕ) (es′ : List Expr) (ps′ : List Step) : Type 0 where

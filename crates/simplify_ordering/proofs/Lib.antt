@@ -6,3 +6,4 @@ pub mod ImplodeLaws
 pub mod StepLaws
 pub mod ImplodesLaws
 pub mod LookLaws
+pub mod VisitLaws

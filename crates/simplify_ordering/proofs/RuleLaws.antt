@@ -1,5 +1,5 @@
 -- A rule reads the kind, the options and the number of expressions of its step, and leaves its lists as they are.
-use mathlib.Core.Path.{_≡_, refl, ap}
+use mathlib.Core.Path.{_≡_, refl, sym, ap, _∙_}
 use Prim.Native.Nat.{ℕ}
 use mathlib.Core.Bool.{Bool, true, false}
 use mathlib.Core.List.{List, []}
@@ -10,6 +10,7 @@ use Rattle.plan.specs.Kinds.{join-type, same-join-type}
 use Rattle.plan.specs.Lists.{if_then_else_}
 use Rattle.plan.specs.Sheet.{Step}
 use Rattle.plan.specs.Visit.{Around, Observable, Loosened, rule, merge-sorted-all, loosen, unordered-union}
+use Rattle.simplify_ordering.specs.declared.rules.Ruled.{Ruled}
 use Rattle.simplify_ordering.specs.Held.{step-of, options-of, ruled-of, ruled-step}
 
 module _ (s : Step) (e : Around) (o : Observable) where
@@ -77,3 +78,14 @@ module _ (s : Step) (e : Around) (o : Observable) where
   rule-keeps IR.ExtContext h = refl
   rule-keeps IR.SimpleProjection h = refl
   rule-keeps IR.Cache h = refl
+
+-- The rule as the code gives it, from the step's options: the step, and the edges loosened
+module _ (s : Step) (e : Around) (o : Observable) (r : Ruled) (reads : r ≡ ruled-of (rule (step-of (options-of s)) e o (s .kind))) where
+  rule-is : r ≡ ruled-of (rule s e o (s .kind))
+  rule-is = reads ∙ sym (rule-reads s e o (s .kind))
+
+  pub ruled-is : (s .kind ≡ IR.MergeSorted → (s .exprs ≡ []) × (s .aggs ≡ [])) → ruled-step s r ≡ rule s e o (s .kind) .0
+  ruled-is h = ap (ruled-step s) rule-is ∙ sym (rule-keeps s e o (s .kind) h)
+
+  pub loosened-is : loosen (r .in0) (r .in1) (r .out) ≡ rule s e o (s .kind) .1
+  loosened-is = ap (λ (x : Ruled). loosen (x .in0) (x .in1) (x .out)) rule-is

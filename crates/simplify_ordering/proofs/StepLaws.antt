@@ -90,6 +90,12 @@ module _ (bytes : List ℕ) (n i : ℕ) (held : Steps-held bytes n) (here : i < 
   unfolding step-of
   its-aggs = ap (λ (x : Step). x .aggs) step-is ∙ rw (number 4, number 5, number 6) (part (at 4 + at 5) (at 6))
 
+  pub its-n1 : length (s .inputs) ≡ at 4
+  unfolding step-of
+  its-n1 =
+      ap (λ (x : Step). length (x .inputs)) step-is
+      ∙ rw (number 4) (ap length (part 0 (at 4)) ∙ length-part 0 (at 4) (omega (arith, held .formed i here .n1)))
+
   pub its-n2 : length (s .exprs) ≡ at 5
   its-n2 = ap length its-exprs ∙ length-part (at 4) (at 5) (omega (arith, held .formed i here .n1, held .formed i here .n2))
 

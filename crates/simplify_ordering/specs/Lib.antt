@@ -1,3 +1,4 @@
 pub mod Held
 pub mod Arena
 pub mod Looks
+pub mod Run

@@ -1,0 +1,188 @@
+-- A visit as the definition has it, from what the code of its stages gives.
+use mathlib.Core.Path.{_≡_, refl, sym, ap, _∙_, subst}
+use mathlib.Core.Logic.{_≢_}
+use Prim.Native.Nat.{ℕ, _+_, _*_, _≤_, _<_}
+use native.Mathlib.Omega.{arith}
+use native.Mathlib.Nat.{le-trans}
+use mathlib.Core.Bool.{Bool, true, false, _&&_, not}
+use mathlib.Core.List.{List, [], _∷_, map}
+use lib.Dec.{T, eqb}
+use lib.ListN.{length, getD, set}
+use lib.Seq.{set-set, getD-set-same}
+use borrow.Author.Tests.{eq-eqb, ne-eqb}
+use Rattle.plan.specs.declared.ir.IR.{IR}
+use Rattle.plan.specs.Kinds.{same-ir}
+use Rattle.plan.specs.Lists.{if_then_else_, yes?}
+use Rattle.plan.specs.Sheet.{Expr, Step, no-step, Outcome, refused, done, step-at}
+use Rattle.plan.specs.Graph.{Edge}
+use Rattle.plan.specs.Visit.{Run, Around, Observable, Looked, around, with-implodes, with-aggs, looks-of, looked-in, rule, ruling, refusal-in, settled, settle, goes, unlink-node, one-visit, simplify-ir-node-orders}
+use Rattle.plan.specs.Visit as Visit
+use Rattle.plan.specs.Visit.{no-edge}
+use Rattle.plan.specs.StoredLaws.{length-table, table-at}
+use Rattle.expr.specs.declared.look.Tally.{Tally}
+use Rattle.simplify_ordering.specs.declared.around.Around as code
+use Rattle.simplify_ordering.specs.declared.rules.Options.{Options}
+use Rattle.simplify_ordering.specs.Held.{around-of, options-of, Unlinked, Unlinkable, Edges-held, held-edge, held-edges}
+use Rattle.simplify_ordering.specs.Looks.{Listed}
+use Rattle.simplify_ordering.specs.Run.{run-of, Run-held, refusal-number, Ruled-by, Settle-asks}
+use Rattle.simplify_ordering.proofs.StepLaws.{length-steps, its-n1}
+use Rattle.simplify_ordering.proofs.UnlinkLaws.{first-input}
+use Rattle.claims.proofs.Stays.{goes-sort}
+use Rattle.claims.proofs.Counts.{true-of}
+use Rattle.simplify_ordering.proofs.ImplodesLaws.{longer-start}
+use Rattle.claims.specs.Visitable.{Visitable}
+
+-- the state of a run
+abbrev pub state : List Expr → List Step → List Edge → List ℕ → List ℕ → ℕ → ℕ → Run
+state es ps ds back removed visits looks =
+    record { arena = es; steps = ps; edges = ds; back = back; removed = removed; visits = visits; looks = looks }
+
+-- A visit that removes nothing ---------------------------------------------------------------------------------------------------------
+
+plain-merge : (s : Step) (es : List Expr) → s .kind ≡ IR.MergeSorted → with-implodes s es .0 ≡ s .aggs
+unfolding with-implodes
+plain-merge s es k = rw k
+
+module _ (es : List Expr) (ps : List Step) (ds : List Edge) (n : ℕ) (visits looks : ℕ) (here : n < length ps) where
+  abbrev l : Looked
+  l = looks-of (step-at ps n) (around n ds) es looks
+
+  -- ps₁ are the steps after the looks
+  module _ (ps₁ : List Step) (steps-are : ps₁ ≡ set ps n (l .step)) where
+    step-now : step-at ps₁ n ≡ l .step
+    step-now = ap (λ (x : List Step). step-at x n) steps-are ∙ getD-set-same ps n (l .step) no-step here
+
+    pub options-now : options-of (step-at ps n) ≡ options-of (step-at ps₁ n)
+    unfolding looks-of
+    options-now = rw step-now
+
+    pub merges-now : (step-at ps n .kind ≡ IR.MergeSorted → (step-at ps n .exprs ≡ []) × (step-at ps n .aggs ≡ []))
+        → step-at ps₁ n .kind ≡ IR.MergeSorted → (step-at ps₁ n .exprs ≡ []) × (step-at ps₁ n .aggs ≡ [])
+    unfolding looks-of
+    merges-now h = rw step-now (λ k. (h k .0, plain-merge (step-at ps n) es k ∙ h k .1))
+
+    -- o is what was observed, k the number that the code gave
+    module _ (o : Observable) (seen : o ≡ l .observable) (k : ℕ) (number : k ≡ refusal-number (step-at ps₁ n) o) (back removed : List ℕ) where
+      number-is : k ≡ refusal-in n (state es ps ds back removed visits looks)
+      unfolding refusal-in looked-in
+      number-is = number ∙ rw (step-now, seen)
+
+      pub settle-refused : k ≢ 0 → settle n (state es ps ds back removed visits looks) ≡ refused k
+      unfolding settle
+      settle-refused h = rw (← number-is, ne-eqb k 0 h)
+
+      pub settle-done : k ≡ 0 → (ps₂ : List Step) (ds₂ : List Edge) (es₂ : List Expr) (visits₂ looks₂ : ℕ) → es₂ ≡ l .end .expr-arena → visits₂ ≡ visits
+          → looks₂ ≡ l .end .looks → Ruled-by n (around n ds) o ps₁ ds ps₂ ds₂
+          → settle n (state es ps ds back removed visits looks) ≡ done (state es₂ ps₂ ds₂ (n ∷ back) removed visits₂ looks₂)
+      unfolding settle settled ruling looked-in
+      settle-done h ps₂ ds₂ es₂ visits₂ looks₂ arena-is visits-are looks-are ruled =
+          let steps-then : ps₂ ≡ set ps n (rule (l .step) (around n ds) (l .observable) (l .step .kind) .0) =
+          ruled .steps ∙ ap (λ (x : List Step). set x n (rule (step-at ps₁ n) (around n ds) o (step-at ps₁ n .kind) .0)) steps-are
+          ∙ set-set ps n (l .step) (rule (step-at ps₁ n) (around n ds) o (step-at ps₁ n .kind) .0) ∙ rw (step-now, seen) in
+          let edges-then : ds₂ ≡ map (Visit.loosened n (rule (l .step) (around n ds) (l .observable) (l .step .kind) .1)) ds =
+          ruled .edges ∙ rw (step-now, seen) in
+          rw (← number-is, eq-eqb k 0 h, steps-then, edges-then, arena-is, visits-are, looks-are)
+
+-- what the code's test reads, of its own records
+pub tests-read : (ps : List Step) (ds : List Edge) (n : ℕ) (s : Options) (e : code.Around) → s ≡ options-of (step-at ps n) → around-of e ≡ around n ds
+    → (g : Bool) → g ≡ (same-ir (s .kind) IR.Sort && e .out && not (yes? (s .b)))
+    → g ≡ (same-ir (step-at ps n .kind) IR.Sort && around n ds .out && not (yes? (step-at ps n .b)))
+tests-read ps ds n s e p q g t =
+    t ∙ ap (λ (x : Options). same-ir (x .kind) IR.Sort && e .out && not (yes? (x .b))) p
+    ∙ ap (λ (x : Around). same-ir (step-at ps n .kind) IR.Sort && x .out && not (yes? (step-at ps n .b))) q
+
+-- A visit that removes, and the choice between the two -----------------------------------------------------------------------------------
+
+module _ (es : List Expr) (ps : List Step) (ds : List Edge) (n visits looks : ℕ) where
+  -- g is what the code's test gives
+  module _ (g : Bool) (tests : g ≡ (same-ir (step-at ps n .kind) IR.Sort && around n ds .out && not (yes? (step-at ps n .b)))) (back removed : List ℕ) where
+    pub goes-is : g ≡ goes n (state es ps ds back removed visits looks)
+    unfolding goes around
+    goes-is = tests
+
+    -- the tally after the visit is counted
+    module _ (visits₂ looks₂ : ℕ) (one : visits₂ ≡ visits + 1) (same : looks₂ ≡ looks) where
+      pub goes-on : g ≡ false
+          → simplify-ir-node-orders n (state es ps ds back removed visits looks) ≡ settle n (state es ps ds back removed visits₂ looks₂)
+      unfolding simplify-ir-node-orders
+      goes-on h = rw (← goes-is, h, one, same)
+
+      pub goes-away : g ≡ true → (ps₂ : List Step) (ds₂ : List Edge) → Unlinked n ps ds ps₂ ds₂
+          → simplify-ir-node-orders n (state es ps ds back removed visits looks) ≡ done (state es ps₂ ds₂ back (n ∷ removed) visits₂ looks₂)
+      unfolding simplify-ir-node-orders unlink-node
+      goes-away h ps₂ ds₂ u = rw (← goes-is, h, u .steps, u .edges, one, same)
+
+-- What the stages ask for, out of what a visit may lean on -------------------------------------------------------------------------------
+
+pub listed-of : (n : ℕ) (r : Run) (e : Around) → e ≡ around n (r .edges) → Listed (looked-in n r)
+    → Listed (looks-of (step-at (r .steps) n) e (r .arena) (r .looks))
+unfolding looked-in
+listed-of n r e i l = rw i l
+
+-- with one visit more on the tally
+pub settle-asked : (n : ℕ) (r r′ : Run) → Visitable n r → r′ ≡ one-visit r → Settle-asks n r′
+unfolding looked-in looks-of
+settle-asked n r r′ v i =
+    rw i
+    (record {
+      aggs = v .aggs;
+      listed =
+          record {
+            exprs = λ q m. le-trans (v .exprs q m) (longer-start (step-at (r .steps) n) (r .arena));
+            aggs = v .imploded;
+            room = v .room;
+            between = v .between;
+            end = v .looks;
+          };
+      merges = v .merges;
+    })
+
+module _ (recs line : List ℕ) (off : List Bool) (m : ℕ) (steps : List ℕ) (n : ℕ) (consumer slot producer : List ℕ) (unordered : List Bool) (edges : ℕ) (tally : Tally)
+    (held : Run-held recs line off m steps n producer unordered edges) (i : ℕ)
+    (v : Visitable i (run-of recs line off m steps n consumer slot producer unordered edges [] [] tally)) where
+  abbrev ds : List Edge
+  ds = held-edges consumer slot producer unordered edges
+
+  pub here-is : i < n
+  here-is = omega (arith, v .step, length-steps steps n)
+
+  edge-is : (k : ℕ) → k < edges → getD ds k no-edge ≡ held-edge consumer slot producer unordered k
+  unfolding held-edges
+  edge-is k h = table-at (held-edge consumer slot producer unordered) edges k no-edge h
+
+  number-there : (k : ℕ) → k < edges → k < length ds
+  unfolding held-edges
+  number-there k h = omega (arith, length-table (held-edge consumer slot producer unordered) 0 edges)
+
+  consumer-there : (k : ℕ) → k < edges → getD consumer k 0 < n
+  unfolding held-edge
+  consumer-there k h =
+      omega (arith, v .consumers k (number-there k h), ap (λ (d : Edge). d .consumer) (edge-is k h), length-steps steps n)
+
+  pub edges-held : Edges-held steps n consumer slot producer unordered edges
+  unfolding held-edge
+  edges-held =
+      record {
+        few = held .few;
+        producers = held .producers;
+        marks = held .marks;
+        there = consumer-there;
+        slots =
+            λ k h.
+            omega (
+              arith,
+              rw (edge-is k h) at (v .slots k (number-there k h)),
+              its-n1 steps n (getD consumer k 0) (held .steps-held) (consumer-there k h),
+            );
+      }
+
+  pub unlinkable : T (goes i (run-of recs line off m steps n consumer slot producer unordered edges [] [] tally)) → Unlinkable steps n i ds
+  unlinkable t =
+      let (some, low) = v .input t in
+      let reads : 1 ≤ getD steps (i * 32 + 4) 0 = omega (arith, some, its-n1 steps n i (held .steps-held) here-is) in
+      record {
+        step = here-is;
+        reads = reads;
+        input = omega (arith, low, first-input steps n i here-is reads);
+        unordered = true-of (Visit.out-edge i ds .unordered) (goes-sort i (run-of recs line off m steps n consumer slot producer unordered edges [] [] tally) t .1);
+      }

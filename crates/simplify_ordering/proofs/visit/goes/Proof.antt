@@ -1,0 +1,17 @@
+use borrow.Author.Needs.{needs}
+use Rattle.simplify_ordering.proofs.visit.goes.Statement.{statement}
+use Rattle.simplify_ordering.proofs.visit.goes.Tie as tie
+use Rattle.simplify_ordering.proofs.visit.goes.Reads as reads
+use Rattle.simplify_ordering.proofs.visit.goes.Lts as lts
+use Rattle.plan.proofs.ir.IR.number.Reads as number-reads
+
+-- src/visit.rt:126:6
+number-requires : tie.Need-number-requires
+number-requires c κs = search needs
+
+-- src/visit.rt:122:1
+returns : tie.Need-returns
+returns c = rw (c .before .before .number .ensures)
+
+pub goes-spec : {M : Type 1} → statement M
+goes-spec = tie.close (tie.spec number-requires returns)

@@ -1,0 +1,68 @@
+use Rattle.simplify_ordering.proofs.VisitLaws.{listed-of, options-now, merges-now, settle-refused, settle-done}
+use Rattle.simplify_ordering.proofs.ImplodeLaws.{length-arena}
+use Rattle.simplify_ordering.proofs.StepLaws.{length-steps}
+use Rattle.simplify_ordering.specs.Run.{run-of, visited-of}
+use Rattle.simplify_ordering.specs.Held.{around-of, observable-of, held-edges}
+use Rattle.plan.specs.Stored.{arena-of, stored-steps}
+use Rattle.plan.specs.Sheet.{step-at}
+use lib.ListN.{length}
+use Prim.Native.Nat.{_<_}
+use mathlib.Core.List.{[]}
+use mathlib.Core.Path.{_≡_, sym, _∙_, ap, refl}
+use native.Mathlib.Omega.{arith}
+use denote.Ref.{now}
+use Rattle.simplify_ordering.proofs.visit.settle.Statement.{statement}
+use Rattle.simplify_ordering.proofs.visit.settle.Tie as tie
+use Rattle.simplify_ordering.proofs.visit.settle.Reads as reads
+use Rattle.simplify_ordering.proofs.visit.settle.Lts as lts
+use Rattle.simplify_ordering.proofs.looks.looks_of.Reads as looks-of-reads
+use Rattle.simplify_ordering.proofs.visit.settle_by_rule.Reads as settle-by-rule-reads
+
+-- src/visit.rt:101:9
+looks-of-requires : tie.Need-looks-of-requires
+looks-of-requires c κs =
+    let a = c .before .before .before .before .args in
+    let r = run-of (now (a .recs)) (now (a .line)) (now (a .off)) (a .exprs) (now (a .steps)) (a .n-steps) (now (a .consumer)) (now (a .slot)) (now (a .producer)) (now (a .unordered)) (a .edges) [] [] (a .tally) in
+    ((c .before .before .before .before .pre .0 .0 .steps-held, c .before .before .before .before .pre .0 .1), ((c .before .before .before .before .pre .0 .0 .arena, c .before .before .before .before .pre .1 .0 .0), ((λ q m. omega (arith, c .before .before .before .before .pre .1 .1 .aggs q m, length-arena (now (a .recs)) (now (a .line)) (now (a .off)) (a .exprs))), listed-of (a .n) r (around-of (a .e)) (c .before .before .before .before .pre .1 .0 .1) (c .before .before .before .before .pre .1 .1 .listed))))
+
+-- src/visit.rt:104:9
+settle-by-rule-requires : tie.Need-settle-by-rule-requires
+settle-by-rule-requires c κs =
+    let a = c .before .before .before .before .before .before .before .before .before .args in
+    let ps = stored-steps (now (a .steps)) (a .n-steps) in
+    let ds = held-edges (now (a .consumer)) (now (a .slot)) (now (a .producer)) (now (a .unordered)) (a .edges) in
+    let es = arena-of (now (a .recs)) (now (a .line)) (now (a .off)) (a .exprs) in
+    let here : a .n < length ps = omega (arith, c .before .before .before .before .before .before .before .before .before .pre .0 .1, length-steps (now (a .steps)) (a .n-steps)) in
+    let g = rw (c .before .before .before .before .before .before .before .before .before .pre .1 .0 .1) at (c .before .before .before .before .looks-of .ensures .0) in
+    ((g .steps-held, c .before .before .before .before .before .before .before .before .before .pre .0 .1, c .before .before .before .before .before .before .before .before .before .pre .1 .0 .0 ∙ options-now es ps ds (a .n) (a .tally .visits) (a .tally .looks) here _ (g .steps-are)), ((c .before .before .before .before .before .before .before .before .before .pre .0 .0 .few, c .before .before .before .before .before .before .before .before .before .pre .0 .0 .marks), merges-now es ps ds (a .n) (a .tally .visits) (a .tally .looks) here _ (g .steps-are) (c .before .before .before .before .before .before .before .before .before .pre .1 .1 .merges)))
+
+-- src/visit.rt:108:9
+returns : tie.Need-returns
+returns c =
+    let a = c .before .before .before .before .before .before .before .before .before .before .before .args in
+    let ps = stored-steps (now (a .steps)) (a .n-steps) in
+    let ds = held-edges (now (a .consumer)) (now (a .slot)) (now (a .producer)) (now (a .unordered)) (a .edges) in
+    let es = arena-of (now (a .recs)) (now (a .line)) (now (a .off)) (a .exprs) in
+    let here : a .n < length ps = omega (arith, c .before .before .before .before .before .before .before .before .before .before .before .pre .0 .1, length-steps (now (a .steps)) (a .n-steps)) in
+    let g = rw (c .before .before .before .before .before .before .before .before .before .before .before .pre .1 .0 .1) at (c .before .before .before .before .before .before .looks-of .ensures .0) in
+    let b = c .before .settle-by-rule in (
+      (λ back removed. settle-refused es ps ds (a .n) (a .tally .visits) (a .tally .looks) here _ (g .steps-are) (observable-of (c .before .before .before .before .before .before .looks-of .result .observable)) (g .observable) (b .result) (b .ensures .0) back removed (c .if1 .taken)),
+      record { arena = g .held; steps-held = b .ensures .1 .1 .0; few = c .before .before .before .before .before .before .before .before .before .before .before .pre .0 .0 .few; producers = c .before .before .before .before .before .before .before .before .before .before .before .pre .0 .0 .producers; marks = b .ensures .1 .1 .1 },
+    )
+
+-- src/visit.rt:77:1
+returns-2 : tie.Need-returns-2
+returns-2 c =
+    let a = c .before .before .before .before .before .before .before .before .before .before .before .args in
+    let ps = stored-steps (now (a .steps)) (a .n-steps) in
+    let ds = held-edges (now (a .consumer)) (now (a .slot)) (now (a .producer)) (now (a .unordered)) (a .edges) in
+    let es = arena-of (now (a .recs)) (now (a .line)) (now (a .off)) (a .exprs) in
+    let here : a .n < length ps = omega (arith, c .before .before .before .before .before .before .before .before .before .before .before .pre .0 .1, length-steps (now (a .steps)) (a .n-steps)) in
+    let g = rw (c .before .before .before .before .before .before .before .before .before .before .before .pre .1 .0 .1) at (c .before .before .before .before .before .before .looks-of .ensures .0) in
+    let b = c .before .settle-by-rule in (
+      (λ back removed. settle-done es ps ds (a .n) (a .tally .visits) (a .tally .looks) here _ (g .steps-are) (observable-of (c .before .before .before .before .before .before .looks-of .result .observable)) (g .observable) (b .result) (b .ensures .0) back removed (c .if1 .left) _ _ _ _ _ (g .arena) (c .before .before .before .before .before .before .looks-of .ensures .1) (g .looks) (rw (c .before .before .before .before .before .before .before .before .before .before .before .pre .1 .0 .1) at (b .ensures .1 .0 (c .if1 .left)))),
+      record { arena = g .held; steps-held = b .ensures .1 .1 .0; few = c .before .before .before .before .before .before .before .before .before .before .before .pre .0 .0 .few; producers = c .before .before .before .before .before .before .before .before .before .before .before .pre .0 .0 .producers; marks = b .ensures .1 .1 .1 },
+    )
+
+pub settle-spec : {M : Type 1} → statement M
+settle-spec = tie.close (tie.spec looks-of-requires settle-by-rule-requires returns returns-2)

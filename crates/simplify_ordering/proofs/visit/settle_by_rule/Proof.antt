@@ -1,0 +1,70 @@
+use Rattle.simplify_ordering.proofs.RuleLaws.{ruled-is, loosened-is}
+use Rattle.simplify_ordering.specs.Run.{refusal-number}
+use Rattle.simplify_ordering.specs.Held.{around-of, observable-of, step-of, ruled-of, held-edges}
+use Rattle.simplify_ordering.specs.declared.rules.Options.{Options}
+use Rattle.plan.specs.Visit.{Loosened, rule, loosened}
+use Rattle.plan.specs.Stored.{stored-steps}
+use Rattle.plan.specs.Sheet.{Step, step-at}
+use lib.ListN.{set}
+use mathlib.Core.List.{map}
+use mathlib.Core.Path.{_≡_, sym, _∙_, ap, refl}
+use denote.Ref.{now}
+use borrow.Author.Needs.{needs}
+use Rattle.simplify_ordering.proofs.visit.settle_by_rule.Statement.{statement}
+use Rattle.simplify_ordering.proofs.visit.settle_by_rule.Tie as tie
+use Rattle.simplify_ordering.proofs.visit.settle_by_rule.Reads as reads
+use Rattle.simplify_ordering.proofs.visit.settle_by_rule.Lts as lts
+use Rattle.simplify_ordering.proofs.loosen.loosen_edges.Reads as loosen-edges-reads
+use Rattle.simplify_ordering.proofs.rules.refusal_of.Reads as refusal-of-reads
+use Rattle.simplify_ordering.proofs.rules.rule_of.Reads as rule-of-reads
+use Rattle.simplify_ordering.proofs.store.store_options.Reads as store-options-reads
+
+-- src/visit.rt:64:9
+refusal-of-requires : tie.Need-refusal-of-requires
+refusal-of-requires c κs = search needs
+
+-- src/visit.rt:66:9
+returns : tie.Need-returns
+returns c =
+    (c .before .refusal-of .ensures ∙ ap (λ (x : Options). refusal-number (step-of x) (observable-of (c .before .before .args .o))) (c .before .before .pre .0 .2), ((λ z. absurd (c .if1 .taken z)), (c .before .before .pre .0 .0, c .before .before .pre .1 .0 .1)))
+
+-- src/visit.rt:68:9
+rule-of-requires : tie.Need-rule-of-requires
+rule-of-requires c κs = search needs
+
+-- src/visit.rt:69:5
+store-options-requires : tie.Need-store-options-requires
+store-options-requires c κs = search needs
+
+-- src/visit.rt:70:5
+loosen-edges-requires : tie.Need-loosen-edges-requires
+loosen-edges-requires c κs = search needs
+
+-- src/visit.rt:44:1
+returns-2 : tie.Need-returns-2
+returns-2 c =
+    let a = c .before .before .before .before .before .before .before .args in
+    let s : Step = step-at (stored-steps (now (a .steps)) (a .n-steps)) (a .n) in
+    let reads = c .before .before .before .before .rule-of .ensures ∙ ap (λ (x : Options). ruled-of (rule (step-of x) (around-of (a .e)) (observable-of (a .o)) (x .kind))) (c .before .before .before .before .before .before .before .pre .0 .2) in
+    let e = around-of (a .e) in
+    let o = observable-of (a .o) in (
+      sym (c .before .before .before .before .before .if1 .left) ∙ c .before .before .before .before .before .before .refusal-of .ensures ∙ ap (λ (x : Options). refusal-number (step-of x) o) (c .before .before .before .before .before .before .before .pre .0 .2),
+      (
+        (λ _. record {
+          steps = c .before .before .store-options .ensures .0 ∙ ap (set (stored-steps (now (a .steps)) (a .n-steps)) (a .n)) (ruled-is s e o (c .before .before .before .before .rule-of .result) reads (c .before .before .before .before .before .before .before .pre .1 .1));
+          edges = c .loosen-edges .ensures .0 ∙ ap (λ (l : Loosened). map (loosened (a .n) l) (held-edges (now (a .consumer)) (now (a .slot)) (now (a .producer)) (now (a .unordered)) (a .edges))) (loosened-is s e o (c .before .before .before .before .rule-of .result) reads);
+        }),
+        (c .before .before .store-options .ensures .1, c .loosen-edges .ensures .1),
+      ),
+    )
+
+pub settle-by-rule-spec : {M : Type 1} → statement M
+settle-by-rule-spec =
+    tie.close
+    (tie.spec
+    refusal-of-requires
+    returns
+    rule-of-requires
+    store-options-requires
+    loosen-edges-requires
+    returns-2)

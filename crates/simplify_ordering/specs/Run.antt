@@ -1,0 +1,65 @@
+-- A run as the code holds it, and what a visit asks and gives.
+use mathlib.Core.Path.{_≡_}
+use Prim.Native.Nat.{ℕ, _≤_, _<_}
+use mathlib.Core.Bool.{Bool}
+use mathlib.Core.List.{List, [], _∷_, map, List·Memᴰ}
+use lib.ListN.{length, set}
+use Rattle.plan.specs.declared.ir.IR.{IR}
+use Rattle.plan.specs.Lists.{if_then_else_}
+use Rattle.plan.specs.Sheet.{Step, Outcome, refused, done, step-at}
+use Rattle.plan.specs.Graph.{Edge}
+use Rattle.plan.specs.Stored.{arena-of, stored-steps}
+use Rattle.plan.specs.Visit.{Run, rule, loosened, join-fails, sink-fails, looked-in}
+use Rattle.plan.specs.Visit as Visit
+use Rattle.expr.specs.declared.look.Tally.{Tally}
+use Rattle.simplify_ordering.specs.declared.visit.Visit.{Visit}
+use Rattle.simplify_ordering.specs.declared.visit.Visited.{Visited}
+use Rattle.simplify_ordering.specs.Arena.{Arena-held}
+use Rattle.simplify_ordering.specs.Held.{held-edges, Steps-held}
+use Rattle.simplify_ordering.specs.Looks.{Listed}
+
+-- recs, line, off: the arena's first m lines. steps: n of them. consumer, slot, producer, unordered: so many edges. The places gone
+-- back along and the sorts removed are lists of the definition alone: a visit does not read them
+abbrev pub run-of : List ℕ → List ℕ → List Bool → ℕ → List ℕ → ℕ → List ℕ → List ℕ → List ℕ → List Bool → ℕ → List ℕ → List ℕ → Tally → Run
+run-of recs line off m steps n consumer slot producer unordered edges back removed tally =
+    record {
+      arena = arena-of recs line off m;
+      steps = stored-steps steps n;
+      edges = held-edges consumer slot producer unordered edges;
+      back = back;
+      removed = removed;
+      visits = tally .visits;
+      looks = tally .looks;
+    }
+
+pub record Run-held (recs line : List ℕ) (off : List Bool) (m : ℕ) (steps : List ℕ) (n : ℕ) (producer : List ℕ) (unordered : List Bool) (edges : ℕ) : Type 0 where
+  pub arena : Arena-held recs line off m
+  pub steps-held : Steps-held steps n
+  pub few : edges ≤ 256
+  pub producers : length producer ≡ 256
+  pub marks : length unordered ≡ 256
+
+-- A step settled by its rule, its looks made ---------------------------------------------------------------------------------------
+
+-- 10, 11, or 0 for neither
+abbrev pub refusal-number : Step → Visit.Observable → ℕ
+refusal-number s o = if join-fails s o then 10 else if sink-fails s o then 11 else 0
+
+-- ps and ds are the steps and the edges before, ps′ and ds′ those after
+pub record Ruled-by (n : ℕ) (e : Visit.Around) (o : Visit.Observable) (ps : List Step) (ds : List Edge) (ps′ : List Step) (ds′ : List Edge) : Type 0 where
+  pub steps : ps′ ≡ set ps n (rule (step-at ps n) e o (step-at ps n .kind) .0)
+  pub edges : ds′ ≡ map (loosened n (rule (step-at ps n) e o (step-at ps n .kind) .1)) ds
+
+-- The answer of a visit ---------------------------------------------------------------------------------------------------------------
+
+-- what comes of the visit to n: the state after it, from the two lists
+abbrev pub visited-of : Visited → ℕ → (List ℕ → List ℕ → Run) → List ℕ → List ℕ → Outcome Run
+visited-of Visited.Settled n after back removed = done (after (n ∷ back) removed)
+visited-of Visited.Removed n after back removed = done (after back (n ∷ removed))
+visited-of (Visited.Refused k) n after back removed = refused k
+
+-- What the settling of step n leans on
+pub record Settle-asks (n : ℕ) (r : Run) : Type 0 where
+  pub aggs : (q : ℕ) → List·Memᴰ q (step-at (r .steps) n .aggs) → q < length (r .arena)
+  pub listed : Listed (looked-in n r)
+  pub merges : step-at (r .steps) n .kind ≡ IR.MergeSorted → (step-at (r .steps) n .exprs ≡ []) × (step-at (r .steps) n .aggs ≡ [])

@@ -1,0 +1,216 @@
+// A visit to a step: simplify_ir_node_orders.
+ghost use mathlib.Core.Path.{_≡_};
+ghost use mathlib.Core.Bool.{_&&_, not};
+ghost use mathlib.Core.List.{List, []};
+ghost use Prim.Native.Nat.{ℕ, _+_, _≤_, _<_, _^_};
+ghost use lib.ListN.{length};
+ghost use Rattle.plan.specs.Kinds.{same-ir};
+ghost use Rattle.plan.specs.declared.ir.IR.{IR};
+ghost use Rattle.plan.specs.Lists.{yes?};
+ghost use Rattle.plan.specs.Sheet.{step-at};
+ghost use Rattle.plan.specs.Stored.{stored-steps};
+ghost use Rattle.plan.specs.Visit.{around, settle, simplify-ir-node-orders};
+ghost use Rattle.claims.specs.Visitable.{Visitable};
+ghost use Rattle.simplify_ordering.specs.Held.{held-edges, around-of, observable-of, options-of, Steps-held};
+ghost use Rattle.simplify_ordering.specs.Run.{run-of, Run-held, refusal-number, Ruled-by, visited-of, Settle-asks};
+use crate::around::Around;
+use crate::around::around_step;
+use crate::looks::looks_of;
+use crate::loosen::loosen_edges;
+use crate::rules::Observable;
+use crate::rules::Options;
+use crate::rules::refusal_of;
+use crate::rules::rule_of;
+use crate::steps::options_of;
+use crate::store::store_options;
+use crate::unlink::unlink_node;
+use expr::look::Tally;
+
+// What comes of a visit: the step was settled, or it was a sort that is removed, or the sheet is refused by 10 or 11.
+pub enum Visited {
+    Settled,
+    Removed,
+    Refused(u8),
+}
+
+// And how many records the arena has then, and the tally.
+pub struct Visit {
+    pub visited: Visited,
+    pub exprs: usize,
+    pub tally: Tally,
+}
+
+// What the looks observed settles step i, n: 10 or 11, and nothing is changed; or 0, and its rule is followed.
+fn settle_by_rule(
+    steps: &mut [u8; 1024],
+    n_steps: usize,
+    consumer: &[u8; 256],
+    slot: &[u8; 256],
+    producer: &[u8; 256],
+    unordered: &mut [bool; 256],
+    edges: usize,
+    n: u8,
+    s: Options,
+    e: Around,
+    o: Observable,
+) -> u8
+    requires { ⌜ Steps-held (now steps) «n_steps» × (n < «n_steps») × (s ≡ options-of (step-at (stored-steps (now steps) «n_steps») n)) ⌝ }
+    requires { ⌜ (edges ≤ 256) × (length (now unordered) ≡ 256) ⌝ }
+    requires { ⌜ (step-at (stored-steps (now steps) «n_steps») n .kind ≡ IR.MergeSorted → (step-at (stored-steps (now steps) «n_steps») n .exprs ≡ []) × (step-at (stored-steps (now steps) «n_steps») n .aggs ≡ [])) ⌝ }
+    ensures { λ r. ⌜ r ≡ refusal-number (step-at (stored-steps (now (steps .entry)) «n_steps») n) (observable-of o) ⌝ }
+    ensures { λ r. ⌜ (r ≡ 0 → Ruled-by n (around-of e) (observable-of o) (stored-steps (now (steps .entry)) «n_steps») (held-edges (now (consumer .entry)) (now (slot .entry)) (now (producer .entry)) (now (unordered .entry)) edges) (stored-steps (now (steps .exit)) «n_steps») (held-edges (now (consumer .entry)) (now (slot .entry)) (now (producer .entry)) (now (unordered .exit)) edges)) ⌝ }
+    ensures { λ r. ⌜ Steps-held (now (steps .exit)) «n_steps» × (length (now (unordered .exit)) ≡ 256) ⌝ }
+{
+    let k = refusal_of(s, o);
+    if k != 0 {
+        return k;
+    }
+    let r = rule_of(s, e, o);
+    store_options(steps, n_steps, n as usize, r);
+    loosen_edges(
+        consumer,
+        slot,
+        producer,
+        unordered,
+        edges,
+        n,
+        r.in0,
+        r.in1,
+        r.out,
+    );
+    0
+}
+
+// A visit that removes nothing.
+fn settle(
+    recs: &mut [u8; 2048],
+    line: &mut [u8; 128],
+    off: &mut [bool; 128],
+    exprs: usize,
+    steps: &mut [u8; 1024],
+    n_steps: usize,
+    consumer: &[u8; 256],
+    slot: &[u8; 256],
+    producer: &[u8; 256],
+    unordered: &mut [bool; 256],
+    edges: usize,
+    n: u8,
+    tally: Tally,
+    s: Options,
+    e: Around,
+) -> Visit
+    requires { ⌜ Run-held (now recs) (now line) (now off) exprs (now steps) «n_steps» (now producer) (now unordered) edges × (n < «n_steps») ⌝ }
+    requires { ⌜ (s ≡ options-of (step-at (stored-steps (now steps) «n_steps») n)) × (around-of e ≡ around n (held-edges (now consumer) (now slot) (now producer) (now unordered) edges)) ⌝ }
+    requires { ⌜ Settle-asks n (run-of (now recs) (now line) (now off) exprs (now steps) «n_steps» (now consumer) (now slot) (now producer) (now unordered) edges [] [] tally) ⌝ }
+    ensures { λ r. ⌜ ((back removed : List ℕ) → settle n (run-of (now (recs .entry)) (now (line .entry)) (now (off .entry)) exprs (now (steps .entry)) «n_steps» (now (consumer .entry)) (now (slot .entry)) (now (producer .entry)) (now (unordered .entry)) edges back removed tally) ≡ visited-of (r .visited) n (λ b d. run-of (now (recs .exit)) (now (line .exit)) (now (off .exit)) (r .exprs) (now (steps .exit)) «n_steps» (now (consumer .entry)) (now (slot .entry)) (now (producer .entry)) (now (unordered .exit)) edges b d (r .tally)) back removed) ⌝ }
+    ensures { λ r. ⌜ Run-held (now (recs .exit)) (now (line .exit)) (now (off .exit)) (r .exprs) (now (steps .exit)) «n_steps» (now (producer .entry)) (now (unordered .exit)) edges ⌝ }
+{
+    let i = n as usize;
+    let l = looks_of(steps, n_steps, i, recs, line, off, exprs, tally, s, e);
+    let o = l.observable;
+    let t = l.tally;
+    let k = settle_by_rule(
+        steps,
+        n_steps,
+        consumer,
+        slot,
+        producer,
+        unordered,
+        edges,
+        n,
+        s,
+        e,
+        o,
+    );
+    if k != 0 {
+        return Visit {
+            visited: Visited::Refused(k),
+            exprs: l.exprs,
+            tally: t,
+        };
+    }
+    Visit {
+        visited: Visited::Settled,
+        exprs: l.exprs,
+        tally: t,
+    }
+}
+
+// A Sort with an unordered out-edge and no slice goes.
+fn goes(s: Options, e: Around) -> bool
+    ensures { λ r. ⌜ r ≡ (same-ir (s .kind) IR.Sort && e .out && not (yes? (s .b))) ⌝ }
+{
+    let kind = s.kind;
+    (kind.number() == 5) & e.out & !(s.b == 1)
+}
+
+// The counter of visits.
+fn one_visit(tally: Tally) -> Tally
+    requires { ⌜ tally .visits + 1 < 2 ^ 64 ⌝ }
+    ensures { λ r. ⌜ (r .visits ≡ tally .visits + 1) × (r .looks ≡ tally .looks) ⌝ }
+{
+    Tally {
+        visits: tally.visits + 1,
+        looks: tally.looks,
+    }
+}
+
+pub fn simplify_ir_node_orders(
+    recs: &mut [u8; 2048],
+    line: &mut [u8; 128],
+    off: &mut [bool; 128],
+    exprs: usize,
+    steps: &mut [u8; 1024],
+    n_steps: usize,
+    consumer: &[u8; 256],
+    slot: &[u8; 256],
+    producer: &mut [u8; 256],
+    unordered: &mut [bool; 256],
+    edges: usize,
+    n: u8,
+    tally: Tally,
+) -> Visit
+    requires { ⌜ Run-held (now recs) (now line) (now off) exprs (now steps) «n_steps» (now producer) (now unordered) edges ⌝ }
+    requires { ⌜ Visitable n (run-of (now recs) (now line) (now off) exprs (now steps) «n_steps» (now consumer) (now slot) (now producer) (now unordered) edges [] [] tally) ⌝ }
+    ensures { λ r. ⌜ ((back removed : List ℕ) → simplify-ir-node-orders n (run-of (now (recs .entry)) (now (line .entry)) (now (off .entry)) exprs (now (steps .entry)) «n_steps» (now (consumer .entry)) (now (slot .entry)) (now (producer .entry)) (now (unordered .entry)) edges back removed tally) ≡ visited-of (r .visited) n (λ b d. run-of (now (recs .exit)) (now (line .exit)) (now (off .exit)) (r .exprs) (now (steps .exit)) «n_steps» (now (consumer .entry)) (now (slot .entry)) (now (producer .exit)) (now (unordered .exit)) edges b d (r .tally)) back removed) ⌝ }
+    ensures { λ r. ⌜ Run-held (now (recs .exit)) (now (line .exit)) (now (off .exit)) (r .exprs) (now (steps .exit)) «n_steps» (now (producer .exit)) (now (unordered .exit)) edges ⌝ }
+{
+    let i = n as usize;
+    let s = options_of(steps, n_steps, i);
+    let e = around_step(consumer, slot, producer, unordered, edges, n);
+    let t = one_visit(tally);
+    if goes(s, e) {
+        unlink_node(
+            steps,
+            n_steps,
+            consumer,
+            slot,
+            producer,
+            unordered,
+            edges,
+            n,
+        );
+        return Visit {
+            visited: Visited::Removed,
+            exprs,
+            tally: t,
+        };
+    }
+    settle(
+        recs,
+        line,
+        off,
+        exprs,
+        steps,
+        n_steps,
+        consumer,
+        slot,
+        producer,
+        unordered,
+        edges,
+        n,
+        t,
+        s,
+        e,
+    )
+}
