@@ -7,3 +7,4 @@ pub mod StepLaws
 pub mod ImplodesLaws
 pub mod LookLaws
 pub mod VisitLaws
+pub mod WalkLaws

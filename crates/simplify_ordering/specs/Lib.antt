@@ -2,3 +2,4 @@ pub mod Held
 pub mod Arena
 pub mod Looks
 pub mod Run
+pub mod Walks

@@ -9,3 +9,4 @@ pub mod steps; // steps.rt: what a visit reads of a stored step
 pub mod store; // store.rt: what a visit changes of a stored step
 pub mod unlink; // unlink.rt: unlink_node
 pub mod visit; // visit.rt: simplify_ir_node_orders
+pub mod walks; // walks.rt: the downward and the upward walk

@@ -1,0 +1,218 @@
+-- The walks, place by place: what holds when some places are visited.
+use mathlib.Core.Path.{_≡_, refl, sym, ap, _∙_, subst}
+use mathlib.Core.Logic.{_≢_}
+use Prim.Native.Nat.{ℕ, suc, _+_, _-_, _≤_, _<_}
+use native.Mathlib.Omega.{arith}
+use mathlib.Core.Bool.{Bool, true, false}
+use mathlib.Core.List.{List, [], _∷_, _++_}
+use lib.Dec.{T, eqb}
+use lib.ListN.{length, getD, set, take, drop, length-set, drop-of-length-le}
+use lib.Seq.{drop-cons, getD-set-same, drop-set-lt}
+use Rattle.plan.specs.Lists.{if_then_else_}
+use Rattle.plan.specs.Sheet.{Outcome, refused, done, _then_}
+use Rattle.plan.specs.Visit.{Run, goes, settle, refusal-in, unlink-node, one-visit, looked-in, simplify-ir-node-orders}
+use Rattle.plan.specs.Visit as Visit
+use Rattle.plan.specs.Walks.{walk}
+use Rattle.claims.specs.Visitable.{Visitable}
+use Rattle.claims.proofs.Visitables.{Going, going-visit, going-visitable}
+use Rattle.simplify_ordering.specs.declared.walks.Walked.{Walked}
+use Rattle.simplify_ordering.specs.Walks.{Placed, settled, removed, refused-at, Walk-asks, Walk-gives}
+
+-- A refusal's number is not 0 ---------------------------------------------------------------------------------------------------------
+
+abbrev refused? : Outcome Run → ℕ
+refused? (refused k) = 1
+refused? (done r) = 0
+
+abbrev number-of : Outcome Run → ℕ
+number-of (refused k) = k
+number-of (done r) = 0
+
+not-refused : {r : Run} {k : ℕ} → done r ≡ refused k → ⊥
+not-refused e = let z : _≡_ {A = ℕ} 0 1 = ap refused? e in omega (arith, z)
+
+clash : true ≡ false → ⊥
+clash h = let z : _≡_ {A = ℕ} 1 0 = ap (λ (b : Bool). if b then 1 else 0) h in omega (arith, z)
+
+pub refused-number : (n : ℕ) (r : Run) (k : ℕ) → simplify-ir-node-orders n r ≡ refused k → k ≢ 0
+unfolding simplify-ir-node-orders settle
+refused-number n r k e zero = by (goes n r) (eqb (refusal-in n (one-visit r)) 0) refl e
+  where
+    by : (a b : Bool) → eqb (refusal-in n (one-visit r)) 0 ≡ b
+        → (if a then done (unlink-node n (one-visit r)) else if b then done (Visit.settled n (one-visit r)) else refused (refusal-in n (one-visit r))) ≡ refused k
+        → ⊥
+    by true b i e = not-refused e
+    by false true i e = not-refused e
+    by false false i e =
+        let z : refusal-in n (one-visit r) ≡ 0 = ap number-of e ∙ zero in
+        clash (sym (ap (λ (m : ℕ). eqb m 0) z) ∙ i)
+
+-- Along the places ---------------------------------------------------------------------------------------------------------------------
+
+-- a visit reads neither of the two lists
+pub visitable-apart : (n : ℕ) (r r′ : Run) → r′ .arena ≡ r .arena → r′ .steps ≡ r .steps → r′ .edges ≡ r .edges → r′ .visits ≡ r .visits → r′ .looks ≡ r .looks
+    → Visitable n r → Visitable n r′
+unfolding looked-in goes
+visitable-apart n r r′ a s e v l k =
+    record {
+      step = rw s (k .step);
+      visits = rw v (k .visits);
+      exprs = rw (a, s) (k .exprs);
+      aggs = rw (a, s) (k .aggs);
+      imploded = rw (a, s, e, l) (k .imploded);
+      room = rw (a, s, e, l) (k .room);
+      between = rw (a, s, e, l) (k .between);
+      looks = rw (a, s, e, l) (k .looks);
+      consumers = rw (s, e) (k .consumers);
+      slots = rw (s, e) (k .slots);
+      input = rw (s, e) (k .input);
+      merges = rw s (k .merges);
+    }
+
+-- ns are all places of the walk, `rest` those that are left; w is the walk as it set out, r as it is now, and `pushed` the places
+-- stored to go back along
+pub record Walking (ns rest : List ℕ) (before after : List ℕ → List ℕ → Run) (w r : Walked) (pushed : List ℕ) : Type 0 where
+  pub gone : List ℕ
+  pub count : r .removed ≡ w .removed + length gone
+  pub on : r .refused ≡ 0 → (b d : List ℕ) → walk ns (before b d) ≡ walk rest (after (pushed ++ b) (gone ++ d))
+  pub refusal : r .refused ≢ 0 → (b d : List ℕ) → walk ns (before b d) ≡ refused (r .refused)
+  pub most : ℕ
+  pub few : most ≤ 576
+  pub back : List ℕ
+  pub removed : List ℕ
+  pub going : r .refused ≡ 0 → Going most rest (after (pushed ++ back) (gone ++ removed))
+
+module _ (ns : List ℕ) (before : List ℕ → List ℕ → Run) (w : Walked) where
+  pub walking-none : Walk-asks ns before → w .refused ≡ 0 → Walking ns ns before before w w []
+  walking-none a z =
+      record {
+        gone = [];
+        count = omega arith;
+        on = λ _ b d. refl;
+        refusal = λ k b d. absurd (k z);
+        most = a .most;
+        few = a .few;
+        back = a .back;
+        removed = a .removed;
+        going = λ _. a .going;
+      }
+
+  module _ (after : List ℕ → List ℕ → Run) (r : Walked) (pushed : List ℕ) where
+    pub walking-stops : (rest : List ℕ) → Walking ns rest before after w r pushed → r .refused ≢ 0 → Walk-gives ns before after w r pushed
+    walking-stops rest g k = record { gone = g .gone; count = g .count; is = λ z. absurd (k z); refusal = g .refusal }
+
+    pub walking-ends : Walking ns [] before after w r pushed → Walk-gives ns before after w r pushed
+    unfolding walk
+    walking-ends g = record { gone = g .gone; count = g .count; is = g .on; refusal = g .refusal }
+
+    module _ (n : ℕ) (rest : List ℕ) (g : Walking ns (n ∷ rest) before after w r pushed) (z : r .refused ≡ 0) where
+      pub place-visitable : Visitable n (after (pushed ++ g .back) (g .gone ++ g .removed))
+      place-visitable = going-visitable (g .most) n rest (after (pushed ++ g .back) (g .gone ++ g .removed)) (g .few) (g .going z)
+
+      module _ (after′ : List ℕ → List ℕ → Run) (r′ : Walked) where
+        walk-on : (b d : List ℕ) (x : Run) → simplify-ir-node-orders n (after (pushed ++ b) (g .gone ++ d)) ≡ done x → walk ns (before b d) ≡ walk rest x
+        unfolding walk _then_
+        walk-on b d x e = g .on z b d ∙ ap (λ (o : Outcome Run). o then λ y. walk rest y) e
+
+        pub more-settled : ((b d : List ℕ) → simplify-ir-node-orders n (after b d) ≡ done (after′ (n ∷ b) d)) → r′ .refused ≡ 0 → r′ .removed ≡ r .removed
+            → Walking ns rest before after′ w r′ (n ∷ pushed)
+        more-settled e z′ same =
+            record {
+              gone = g .gone;
+              count = same ∙ g .count;
+              on = λ _ b d. walk-on b d (after′ (n ∷ (pushed ++ b)) (g .gone ++ d)) (e (pushed ++ b) (g .gone ++ d));
+              refusal = λ k. absurd (k z′);
+              most = g .most;
+              few = g .few;
+              back = g .back;
+              removed = g .removed;
+              going = λ _. going-visit (g .most) n rest _ _ (g .going z) (e (pushed ++ g .back) (g .gone ++ g .removed));
+            }
+
+        pub more-removed : ((b d : List ℕ) → simplify-ir-node-orders n (after b d) ≡ done (after′ b (n ∷ d))) → r′ .refused ≡ 0 → r′ .removed ≡ r .removed + 1
+            → Walking ns rest before after′ w r′ pushed
+        more-removed e z′ one =
+            record {
+              gone = n ∷ g .gone;
+              count = omega (arith, one, g .count);
+              on = λ _ b d. walk-on b d (after′ (pushed ++ b) (n ∷ (g .gone ++ d))) (e (pushed ++ b) (g .gone ++ d));
+              refusal = λ k. absurd (k z′);
+              most = g .most;
+              few = g .few;
+              back = g .back;
+              removed = g .removed;
+              going = λ _. going-visit (g .most) n rest _ _ (g .going z) (e (pushed ++ g .back) (g .gone ++ g .removed));
+            }
+
+        pub more-refused : ((b d : List ℕ) → simplify-ir-node-orders n (after b d) ≡ refused (r′ .refused)) → r′ .refused ≢ 0 → r′ .removed ≡ r .removed
+            → Walking ns rest before after′ w r′ pushed
+        unfolding walk _then_
+        more-refused e k same =
+            record {
+              gone = g .gone;
+              count = same ∙ g .count;
+              on = λ z′. absurd (k z′);
+              refusal = λ _ b d. g .on z b d ∙ ap (λ (o : Outcome Run). o then λ y. walk rest y) (e (pushed ++ b) (g .gone ++ d));
+              most = g .most;
+              few = g .few;
+              back = g .back;
+              removed = g .removed;
+              going = λ z′. absurd (k z′);
+            }
+
+-- The array of places to go back along -----------------------------------------------------------------------------------------------------
+
+pub stored-place : (back : List ℕ) (at n : ℕ) → at < length back → drop at (set back at n) ≡ n ∷ drop (at + 1) back
+stored-place back at n h =
+    let e : at + 1 ≡ suc at = omega arith in
+    rw e
+    (drop-cons (set back at n) at 0 (simp length-set h)
+    ∙ rw (getD-set-same back at n 0 h, drop-set-lt (suc at) back at n (omega arith)))
+
+-- what a visit made of the walk and of the array
+pub walking-more : (ns : List ℕ) (before : List ℕ → List ℕ → Run) (w : Walked) (after : List ℕ → List ℕ → Run) (r : Walked) (n : ℕ) (rest : List ℕ)
+    (after′ : List ℕ → List ℕ → Run) (r′ : Walked) (back back′ : List ℕ) → length back ≡ 288 → r .at ≤ 288
+    → Walking ns (n ∷ rest) before after w r (drop (r .at) back) → r .refused ≡ 0 → Placed n after after′ r back r′ back′
+    → Walking ns rest before after′ w r′ (drop (r′ .at) back′) × (length back′ ≡ 288) × (r′ .at ≤ r .at) × (r .at ≤ r′ .at + 1) × (r′ .removed ≤ r .removed + 1)
+walking-more ns before w after r n rest after′ r′ back back′ size few g z (settled e z′ at-is back-is same) =
+    let p : drop (r′ .at) back′ ≡ n ∷ drop (r .at) back = ap (drop (r′ .at)) back-is ∙ stored-place back (r′ .at) n (omega (arith, size, at-is)) ∙ ap (λ (m : ℕ). n ∷ drop m back) at-is in (
+      subst (Walking ns rest before after′ w r′) (sym p) (more-settled ns before w after r (drop (r .at) back) n rest g z after′ r′ e z′ same),
+      ap length back-is ∙ length-set back (r′ .at) n ∙ size,
+      omega (arith, at-is),
+      omega (arith, at-is),
+      omega (arith, same),
+    )
+walking-more ns before w after r n rest after′ r′ back back′ size few g z (removed e z′ at-is back-is one) =
+    let p : drop (r′ .at) back′ ≡ drop (r .at) back = ap (drop (r′ .at)) back-is ∙ ap (λ (m : ℕ). drop m back) at-is in (
+      subst (Walking ns rest before after′ w r′) (sym p) (more-removed ns before w after r (drop (r .at) back) n rest g z after′ r′ e z′ one),
+      ap length back-is ∙ size,
+      omega (arith, at-is),
+      omega (arith, at-is),
+      omega (arith, one),
+    )
+walking-more ns before w after r n rest after′ r′ back back′ size few g z (refused-at e k back-is at-is same) =
+    let p : drop (r′ .at) back′ ≡ drop (r .at) back = ap (drop (r′ .at)) back-is ∙ ap (λ (m : ℕ). drop m back) at-is in (
+      subst (Walking ns rest before after′ w r′) (sym p) (more-refused ns before w after r (drop (r .at) back) n rest g z after′ r′ e k same),
+      ap length back-is ∙ size,
+      omega (arith, at-is),
+      omega (arith, at-is),
+      omega (arith, same),
+    )
+
+-- The places that are left, in the list's array ----------------------------------------------------------------------------------------------
+
+pub rest-next : (list : List ℕ) (i to : ℕ) → i < to → to ≤ length list
+    → take (to - i) (drop i list) ≡ getD list i 0 ∷ take (to - (i + 1)) (drop (i + 1) list)
+rest-next list i to h few =
+    let e : i + 1 ≡ suc i = omega arith in
+    let f : to - i ≡ suc (to - (i + 1)) = omega arith in
+    rw (f, drop-cons list i 0 (omega arith), e)
+
+pub rest-none : (list : List ℕ) (i to : ℕ) → to ≤ i → take (to - i) (drop i list) ≡ []
+rest-none list i to h = let e : to - i ≡ 0 = omega arith in rw e
+
+-- As a walk sets out, nothing is stored
+pub walking-begins : (ns : List ℕ) (before : List ℕ → List ℕ → Run) (w : Walked) (back : List ℕ) → length back ≡ 288 → w .at ≡ 288
+    → Walk-asks ns before → w .refused ≡ 0 → Walking ns ns before before w w (drop (w .at) back)
+walking-begins ns before w back size at-is a z =
+    subst (Walking ns ns before before w w) (sym (drop-of-length-le back {i = w .at} (omega (arith, size, at-is)))) (walking-none ns before w a z)

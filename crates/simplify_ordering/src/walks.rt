@@ -1,0 +1,155 @@
+// The downward and the upward walk: simplify_and_fetch_orderings.
+ghost use mathlib.Core.Path.{_≡_};
+ghost use mathlib.Core.List.{[]};
+ghost use Prim.Native.Nat.{_+_, _-_, _≤_, _<_};
+ghost use lib.ListN.{length, take, drop};
+ghost use Rattle.claims.specs.Visitable.{Visitable};
+ghost use Rattle.plan.specs.Walks.{simplify-and-fetch-orderings};
+ghost use Rattle.simplify_ordering.specs.Run.{run-of, Run-held};
+ghost use Rattle.simplify_ordering.specs.Walks.{Placed, Walk-asks, Walk-gives, sheet-of, Fetch-asks, Orderings-are, Orderings-held};
+use crate::visit::Visited;
+use crate::visit::simplify_ir_node_orders;
+use expr::look::Tally;
+
+// How far a walk has come.
+pub struct Walked {
+    // 10 or 11 once a visit is refused, else 0.
+    pub refused: u8,
+    // Where the places to go back along begin: they are stored from the end of their array on, the last one first.
+    pub at: usize,
+    pub removed: usize,
+    pub exprs: usize,
+    pub tally: Tally,
+}
+
+// What the walks leave: the sorts that they removed are counted.
+pub struct Fetched {
+    pub exprs: usize,
+    pub removed: usize,
+    pub tally: Tally,
+}
+
+pub enum Orderings {
+    Fetched(Fetched),
+    // 10 or 11.
+    Refused(u8),
+}
+
+// What a visit to n leaves of a walk: a settled step is stored as a place to go back along, a removed sort is counted.
+fn visit_place(
+    recs: &mut [u8; 2048],
+    line: &mut [u8; 128],
+    off: &mut [bool; 128],
+    steps: &mut [u8; 1024],
+    n_steps: usize,
+    consumer: &[u8; 256],
+    slot: &[u8; 256],
+    producer: &mut [u8; 256],
+    unordered: &mut [bool; 256],
+    edges: usize,
+    back: &mut [u8; 288],
+    n: u8,
+    w: Walked,
+) -> Walked
+    requires { ⌜ Run-held (now recs) (now line) (now off) (w .exprs) (now steps) «n_steps» (now producer) (now unordered) edges ⌝ }
+    requires { ⌜ Visitable n (run-of (now recs) (now line) (now off) (w .exprs) (now steps) «n_steps» (now consumer) (now slot) (now producer) (now unordered) edges [] [] (w .tally)) ⌝ }
+    requires { ⌜ (1 ≤ w .at) × (w .at ≤ 288) × (length (now back) ≡ 288) × (w .removed < 18446744073709551615) ⌝ }
+    ensures { λ r. ⌜ Placed n (λ b d. run-of (now (recs .entry)) (now (line .entry)) (now (off .entry)) (w .exprs) (now (steps .entry)) «n_steps» (now (consumer .entry)) (now (slot .entry)) (now (producer .entry)) (now (unordered .entry)) edges b d (w .tally)) (λ b d. run-of (now (recs .exit)) (now (line .exit)) (now (off .exit)) (r .exprs) (now (steps .exit)) «n_steps» (now (consumer .entry)) (now (slot .entry)) (now (producer .exit)) (now (unordered .exit)) edges b d (r .tally)) w (now (back .entry)) r (now (back .exit)) ⌝ }
+    ensures { λ r. ⌜ Run-held (now (recs .exit)) (now (line .exit)) (now (off .exit)) (r .exprs) (now (steps .exit)) «n_steps» (now (producer .exit)) (now (unordered .exit)) edges ⌝ }
+{
+    let v = simplify_ir_node_orders(
+        recs,
+        line,
+        off,
+        w.exprs,
+        steps,
+        n_steps,
+        consumer,
+        slot,
+        producer,
+        unordered,
+        edges,
+        n,
+        w.tally,
+    );
+    let tally = v.tally;
+    let visited = v.visited;
+    match visited {
+        Visited::Settled => {
+            let at = w.at - 1;
+            back[at] = n;
+            Walked {
+                refused: 0,
+                at: at,
+                removed: w.removed,
+                exprs: v.exprs,
+                tally: tally,
+            }
+        }
+        Visited::Removed => Walked {
+            refused: 0,
+            at: w.at,
+            removed: w.removed + 1,
+            exprs: v.exprs,
+            tally: tally,
+        },
+        Visited::Refused(k) => Walked {
+            refused: k,
+            at: w.at,
+            removed: w.removed,
+            exprs: v.exprs,
+            tally: tally,
+        },
+    }
+}
+
+// Along the places of `list` from `from` up to `to`, until one is refused.
+fn walk(
+    recs: &mut [u8; 2048],
+    line: &mut [u8; 128],
+    off: &mut [bool; 128],
+    steps: &mut [u8; 1024],
+    n_steps: usize,
+    consumer: &[u8; 256],
+    slot: &[u8; 256],
+    producer: &mut [u8; 256],
+    unordered: &mut [bool; 256],
+    edges: usize,
+    list: &[u8; 288],
+    from: usize,
+    to: usize,
+    back: &mut [u8; 288],
+    w: Walked,
+) -> Walked
+    requires { ⌜ Run-held (now recs) (now line) (now off) (w .exprs) (now steps) «n_steps» (now producer) (now unordered) edges ⌝ }
+    requires { ⌜ Walk-asks (take (to - from) (drop from (now list))) (λ b d. run-of (now recs) (now line) (now off) (w .exprs) (now steps) «n_steps» (now consumer) (now slot) (now producer) (now unordered) edges b d (w .tally)) ⌝ }
+    requires { ⌜ (from ≤ to) × (to ≤ 288) × (length (now list) ≡ 288) × (length (now back) ≡ 288) × (w .refused ≡ 0) × (w .at ≡ 288) × (w .removed ≤ 288) ⌝ }
+    ensures { λ r. ⌜ Walk-gives (take (to - from) (drop from (now (list .entry)))) (λ b d. run-of (now (recs .entry)) (now (line .entry)) (now (off .entry)) (w .exprs) (now (steps .entry)) «n_steps» (now (consumer .entry)) (now (slot .entry)) (now (producer .entry)) (now (unordered .entry)) edges b d (w .tally)) (λ b d. run-of (now (recs .exit)) (now (line .exit)) (now (off .exit)) (r .exprs) (now (steps .exit)) «n_steps» (now (consumer .entry)) (now (slot .entry)) (now (producer .exit)) (now (unordered .exit)) edges b d (r .tally)) w r (drop (r .at) (now (back .exit))) ⌝ }
+    ensures { λ r. ⌜ Run-held (now (recs .exit)) (now (line .exit)) (now (off .exit)) (r .exprs) (now (steps .exit)) «n_steps» (now (producer .exit)) (now (unordered .exit)) edges ⌝ }
+    ensures { λ r. ⌜ (length (now (back .exit)) ≡ 288) × (r .at ≤ 288) × (r .removed ≤ w .removed + (to - from)) ⌝ }
+{
+    let mut r = w;
+    let mut i = from;
+    while i < to {
+        if r.refused != 0 {
+            return r;
+        }
+        r = visit_place(
+            recs,
+            line,
+            off,
+            steps,
+            n_steps,
+            consumer,
+            slot,
+            producer,
+            unordered,
+            edges,
+            back,
+            list[i],
+            r,
+        );
+        i = i + 1;
+    }
+    r
+}
