@@ -8,3 +8,4 @@ pub mod ImplodesLaws
 pub mod LookLaws
 pub mod VisitLaws
 pub mod WalkLaws
+pub mod FetchLaws

@@ -1,7 +1,7 @@
 // The downward and the upward walk: simplify_and_fetch_orderings.
 ghost use mathlib.Core.Path.{_≡_};
-ghost use mathlib.Core.List.{[]};
-ghost use Prim.Native.Nat.{_+_, _-_, _≤_, _<_};
+ghost use mathlib.Core.List.{List, []};
+ghost use Prim.Native.Nat.{ℕ, _+_, _-_, _≤_, _<_};
 ghost use lib.ListN.{length, take, drop};
 ghost use Rattle.claims.specs.Visitable.{Visitable};
 ghost use Rattle.plan.specs.Walks.{simplify-and-fetch-orderings};
@@ -152,4 +152,138 @@ fn walk(
         i = i + 1;
     }
     r
+}
+
+// The length of the list, which its type says, as a fact for proofs. It does nothing.
+fn size_288(a: &[u8; 288])
+    ensures { λ r. ⌜ length (now (a .entry)) ≡ 288 ⌝ }
+{
+    let t = &a[..];
+}
+
+// The upward walk: back along the places that the downward walk stored, from down.at on.
+fn walk_back(
+    recs: &mut [u8; 2048],
+    line: &mut [u8; 128],
+    off: &mut [bool; 128],
+    steps: &mut [u8; 1024],
+    n_steps: usize,
+    consumer: &[u8; 256],
+    slot: &[u8; 256],
+    producer: &mut [u8; 256],
+    unordered: &mut [bool; 256],
+    edges: usize,
+    back: &[u8; 288],
+    down: Walked,
+) -> Walked
+    requires { ⌜ Run-held (now recs) (now line) (now off) (down .exprs) (now steps) «n_steps» (now producer) (now unordered) edges ⌝ }
+    requires { ⌜ Walk-asks (drop (down .at) (now back)) (λ b d. run-of (now recs) (now line) (now off) (down .exprs) (now steps) «n_steps» (now consumer) (now slot) (now producer) (now unordered) edges b d (down .tally)) ⌝ }
+    requires { ⌜ (length (now back) ≡ 288) × (down .at ≤ 288) × (down .removed ≤ 288) ⌝ }
+    ensures { λ r. ⌜ ((pushed : List ℕ) × Walk-gives (drop (down .at) (now (back .entry))) (λ b d. run-of (now (recs .entry)) (now (line .entry)) (now (off .entry)) (down .exprs) (now (steps .entry)) «n_steps» (now (consumer .entry)) (now (slot .entry)) (now (producer .entry)) (now (unordered .entry)) edges b d (down .tally)) (λ b d. run-of (now (recs .exit)) (now (line .exit)) (now (off .exit)) (r .exprs) (now (steps .exit)) «n_steps» (now (consumer .entry)) (now (slot .entry)) (now (producer .exit)) (now (unordered .exit)) edges b d (r .tally)) down r pushed) ⌝ }
+    ensures { λ r. ⌜ Run-held (now (recs .exit)) (now (line .exit)) (now (off .exit)) (r .exprs) (now (steps .exit)) «n_steps» (now (producer .exit)) (now (unordered .exit)) edges ⌝ }
+{
+    let mut again: [u8; 288] = [0; 288];
+    let tally = down.tally;
+    let start = Walked {
+        refused: 0,
+        at: 288,
+        removed: down.removed,
+        exprs: down.exprs,
+        tally: tally,
+    };
+    walk(
+        recs,
+        line,
+        off,
+        steps,
+        n_steps,
+        consumer,
+        slot,
+        producer,
+        unordered,
+        edges,
+        back,
+        down.at,
+        288,
+        &mut again,
+        start,
+    )
+}
+
+// Along the visiting list, then back over it, but for the sorts removed on the way down.
+pub fn simplify_and_fetch_orderings(
+    recs: &mut [u8; 2048],
+    line: &mut [u8; 128],
+    off: &mut [bool; 128],
+    exprs: usize,
+    steps: &mut [u8; 1024],
+    n_steps: usize,
+    consumer: &[u8; 256],
+    slot: &[u8; 256],
+    producer: &mut [u8; 256],
+    unordered: &mut [bool; 256],
+    edges: usize,
+    list: &[u8; 288],
+    places: usize,
+) -> Orderings
+    requires { ⌜ Fetch-asks (now recs) (now line) (now off) exprs (now steps) «n_steps» (now consumer) (now slot) (now producer) (now unordered) edges (now list) places ⌝ }
+    ensures { λ r. ⌜ Orderings-are (simplify-and-fetch-orderings (sheet-of (now (recs .entry)) (now (line .entry)) (now (off .entry)) exprs (now (steps .entry)) «n_steps»)) (λ m b d t. run-of (now (recs .exit)) (now (line .exit)) (now (off .exit)) m (now (steps .exit)) «n_steps» (now (consumer .entry)) (now (slot .entry)) (now (producer .exit)) (now (unordered .exit)) edges b d t) r ⌝ }
+    ensures { λ r. ⌜ Orderings-held (λ m. Run-held (now (recs .exit)) (now (line .exit)) (now (off .exit)) m (now (steps .exit)) «n_steps» (now (producer .exit)) (now (unordered .exit)) edges) r ⌝ }
+{
+    let mut back: [u8; 288] = [0; 288];
+    let start = Walked {
+        refused: 0,
+        at: 288,
+        removed: 0,
+        exprs: exprs,
+        tally: Tally {
+            visits: 0,
+            looks: 0,
+        },
+    };
+    size_288(list);
+    let down = walk(
+        recs,
+        line,
+        off,
+        steps,
+        n_steps,
+        consumer,
+        slot,
+        producer,
+        unordered,
+        edges,
+        list,
+        0,
+        places,
+        &mut back,
+        start,
+    );
+    if down.refused != 0 {
+        return Orderings::Refused(down.refused);
+    }
+    let up = walk_back(
+        recs,
+        line,
+        off,
+        steps,
+        n_steps,
+        consumer,
+        slot,
+        producer,
+        unordered,
+        edges,
+        &back,
+        down,
+    );
+    if up.refused != 0 {
+        return Orderings::Refused(up.refused);
+    }
+    let tally = up.tally;
+    let fetched = Fetched {
+        exprs: up.exprs,
+        removed: up.removed,
+        tally: tally,
+    };
+    Orderings::Fetched(fetched)
 }

@@ -1,0 +1,100 @@
+-- Both walks, one after the other: the definition's run, or the number of the visit that was refused.
+use mathlib.Core.Path.{_≡_, refl, sym, ap, _∙_, subst}
+use mathlib.Core.Logic.{_≢_}
+use Prim.Native.Nat.{ℕ, _+_, _-_, _≤_}
+use native.Mathlib.Omega.{arith}
+use mathlib.Core.Bool.{Bool}
+use mathlib.Core.List.{List, [], _++_, append-nil}
+use lib.ListN.{length, take, drop, length-append, length-drop}
+use lib.Seq.{take-all}
+use Rattle.plan.specs.Sheet.{Sheet, Outcome, refused, done, _then_}
+use Rattle.plan.specs.Graph.{graph}
+use Rattle.plan.specs.Stored.{stored-steps}
+use Rattle.plan.specs.Visit.{Run}
+use Rattle.plan.specs.Walks.{walk, begin, down, up, simplify-and-fetch-orderings}
+use Rattle.claims.specs.WellFormed.{WellFormed}
+use Rattle.claims.proofs.Visitables.{Going, going-begin, going-half}
+use Rattle.simplify_ordering.specs.declared.walks.Walked.{Walked}
+use Rattle.simplify_ordering.specs.Run.{run-of}
+use Rattle.simplify_ordering.specs.Walks.{Walk-asks, Walk-gives, sheet-of, Fetch-asks}
+
+module _ (sh : Sheet) (wf : WellFormed sh) (before : List ℕ → List ℕ → Run) (begins : before [] [] ≡ begin sh) (ns : List ℕ) (places : ns ≡ graph (sh .steps) .0) where
+  pub down-asks : Walk-asks ns before
+  down-asks =
+      record {
+        most = 288;
+        few = omega arith;
+        back = [];
+        removed = [];
+        going = subst (λ (x : List ℕ). Going 288 x (before [] [])) (sym places) (subst (Going 288 (graph (sh .steps) .0)) (sym begins) (going-begin sh wf));
+      }
+
+  down-is : walk ns (before [] []) ≡ down sh
+  unfolding down
+  down-is = rw (places, begins)
+
+  -- the downward walk ended at r
+  module _ (half : List ℕ → List ℕ → Run) (backs : (b d : List ℕ) → half b d .back ≡ b) (w r : Walked) (pushed : List ℕ) (g : Walk-gives ns before half w r pushed) where
+    pub down-refused : r .refused ≢ 0 → simplify-and-fetch-orderings sh ≡ refused (r .refused)
+    unfolding simplify-and-fetch-orderings _then_
+    down-refused k = ap (λ (o : Outcome Run). o then up) (sym down-is ∙ g .refusal k [] [])
+
+    module _ (z : r .refused ≡ 0) where
+      abbrev h : Run
+      h = half (pushed ++ []) (g .gone ++ [])
+
+      half-is : down sh ≡ done h
+      half-is = sym down-is ∙ g .is z [] []
+
+      along : h .back ≡ pushed
+      along = backs (pushed ++ []) (g .gone ++ []) ∙ append-nil pushed
+
+      pub up-asks : Walk-asks pushed half
+      up-asks =
+          record {
+            most = 576;
+            few = omega arith;
+            back = pushed ++ [];
+            removed = g .gone ++ [];
+            going = subst (λ (x : List ℕ). Going 576 x h) along (going-half sh wf h half-is);
+          }
+
+      -- and the upward walk at r′
+      module _ (whole : List ℕ → List ℕ → Run) (r′ : Walked) (pushed′ : List ℕ) (g′ : Walk-gives pushed half whole r r′ pushed′) where
+        up-is : simplify-and-fetch-orderings sh ≡ walk pushed h
+        unfolding simplify-and-fetch-orderings _then_ up
+        up-is = ap (λ (o : Outcome Run). o then up) half-is ∙ ap (λ (x : List ℕ). walk x h) along
+
+        pub up-refused : r′ .refused ≢ 0 → simplify-and-fetch-orderings sh ≡ refused (r′ .refused)
+        up-refused k = up-is ∙ g′ .refusal k (pushed ++ []) (g .gone ++ [])
+
+        pub fetched : r′ .refused ≡ 0 → w .removed ≡ 0
+            → (back : List ℕ) × (gone : List ℕ) × (simplify-and-fetch-orderings sh ≡ done (whole back gone)) × (r′ .removed ≡ length gone)
+        fetched z′ none = (
+          pushed′ ++ (pushed ++ []),
+          g′ .gone ++ (g .gone ++ []),
+          up-is ∙ g′ .is z′ (pushed ++ []) (g .gone ++ []),
+          omega (arith, none, g .count, g′ .count, length-append (g′ .gone) (g .gone ++ []), ap length (append-nil (g .gone))),
+        )
+
+-- The places stored in the array from `at` on ---------------------------------------------------------------------------------------------
+
+pub to-the-end : (back : List ℕ) (at : ℕ) → length back ≡ 288 → take (288 - at) (drop at back) ≡ drop at back
+to-the-end back at size = take-all (288 - at) (drop at back) (omega (arith, size, length-drop at back))
+
+-- a walk along them that sets out with as many sorts removed
+pub set-out : {ns ns′ : List ℕ} {before after : List ℕ → List ℕ → Run} {w w′ r : Walked} {pushed : List ℕ} → ns ≡ ns′ → w .removed ≡ w′ .removed
+    → Walk-gives ns before after w r pushed → Walk-gives ns′ before after w′ r pushed
+set-out {before = before} {after = after} {w = w} {w′ = w′} {r = r} {pushed = pushed} e i g =
+    subst (λ (x : List ℕ). Walk-gives x before after w′ r pushed) e (record { gone = g .gone; count = omega (arith, i, g .count); is = g .is; refusal = g .refusal })
+
+-- The run as the walks set out --------------------------------------------------------------------------------------------------------------
+
+module _ {recs line : List ℕ} {off : List Bool} {m : ℕ} {steps : List ℕ} {n : ℕ} {consumer slot producer : List ℕ} {unordered : List Bool} {edges : ℕ} {list : List ℕ} {places : ℕ}
+    (ask : Fetch-asks recs line off m steps n consumer slot producer unordered edges list places) where
+  pub begins : run-of recs line off m steps n consumer slot producer unordered edges [] [] (record { visits = 0; looks = 0 }) ≡ begin (sheet-of recs line off m steps n)
+  unfolding begin
+  begins = rw (ask .edges-are)
+
+  pub all-places : take (places - 0) (drop 0 list) ≡ graph (stored-steps steps n) .0
+  all-places = let e : places - 0 ≡ places = omega arith in ap (λ (k : ℕ). take k list) e ∙ ask .places-are
