@@ -1,0 +1,3 @@
+pub mod ArenaLaws
+pub mod RunLaws
+pub mod CallLaws

@@ -1,0 +1,169 @@
+-- Laws of the stages: what the walks ask of a graph as it is made, and what is written of the run that they leave.
+use mathlib.Core.Path.{_≡_, refl, sym, ap, ap₂, _∙_, subst}
+use Prim.Native.Nat.{ℕ, zero, suc, _<_}
+use native.Mathlib.Omega.{arith}
+use mathlib.Core.Bool.{Bool, false}
+use mathlib.Core.List.{List, [], _∷_, _++_}
+use mathlib.Core.Option.{some}
+use lib.ListN.{length, getD, drop, replicate, length-replicate}
+use borrow.Author.Tests.{ne-eqb}
+use Rattle.plan.specs.declared.answer.Answer.{Answer}
+use Rattle.plan.specs.declared.answer.Finished.{Finished}
+use Rattle.plan.specs.Lists.{concat-map}
+use Rattle.plan.specs.Finished.{called, finished-answer}
+use Rattle.plan.specs.Graph.{Edge, graph}
+use Rattle.plan.specs.Sheet.{Sheet, done}
+use Rattle.plan.specs.Stored.{table, arena-of, stored-exprs, stored-steps}
+use Rattle.plan.specs.StoredLaws.{same-table}
+use Rattle.plan.specs.Text.{expr-line, step-line, edge-line, tally-line, exprs-block, steps-block, edges-block, printed}
+use Rattle.plan.specs.Text as text
+use Rattle.plan.specs.Visit.{Run}
+use Rattle.plan.specs.Walks.{simplify-and-fetch-orderings}
+use Rattle.claims.specs.WellFormed.{WellFormed}
+use Rattle.reading.specs.Held.{sheet}
+use Rattle.ir_graph.specs.Edges.{made, edges-of}
+use Rattle.ir_graph.specs.declared.ir_graph.Graph.{Graph}
+use Rattle.expr.specs.declared.look.Tally.{Tally}
+use Rattle.expr.specs.Start.{Own-lines, None-off}
+use Rattle.expr.proofs.Asked.{based-of-sheet}
+use Rattle.expr.proofs.Starts.{all-same, arena-at-start}
+use Rattle.simplify_ordering.specs.Arena.{Arena-held}
+use Rattle.simplify_ordering.specs.Held.{producer-of, held-edge, held-edges, Steps-held}
+use Rattle.simplify_ordering.specs.Run.{run-of}
+use Rattle.simplify_ordering.specs.Walks.{sheet-of, Fetch-asks, Orderings-are, Orderings-held}
+use Rattle.simplify_ordering.specs.declared.walks.Fetched.{Fetched}
+use Rattle.simplify_ordering.specs.declared.walks.Orderings.{Orderings}
+use Rattle.writing.specs.Blocks.{stored-edge, stored-edges, Sheet-wrote}
+use Rattle.engine.specs.Call.{call, Plan-stored, Graph-made}
+use Rattle.engine.specs.Lines.{Run-wrote}
+
+-- Edges as they are made ---------------------------------------------------------------------------------------------------------
+
+is-producer : (p : ℕ) → p < 32 → producer-of p ≡ some p
+is-producer p h = rw (ne-eqb p 255 (λ e. omega (arith, e)))
+
+pub edges-as-made : (consumer slot producer : List ℕ) (n : ℕ) → ((k : ℕ) → k < n → getD producer k 0 < 32)
+    → held-edges consumer slot producer (replicate 256 false) n ≡ edges-of consumer slot producer n
+unfolding held-edges held-edge edges-of
+edges-as-made consumer slot producer n few =
+    same-table (held-edge consumer slot producer (replicate 256 false)) (λ j. made (getD consumer j 0) (getD slot j 0) (getD producer j 0)) n
+    (λ j h. rw (is-producer (getD producer j 0) (few j h), all-same 256 j false))
+
+-- What the walks ask -------------------------------------------------------------------------------------------------------------
+
+module _ (es : List ℕ) (m : ℕ) (ps : List ℕ) (n : ℕ) (k : Plan-stored es m ps n) (line : List ℕ) (off : List Bool) (own : Own-lines line) (on : None-off off) where
+  pub sheet-at-start : sheet-of es line off m ps n ≡ sheet es m ps n
+  sheet-at-start = rw (arena-at-start es m (k .exprs-held .few) line off own on)
+
+  module _ (records : length es ≡ 2048) (steps : length ps ≡ 1024) (consumer slot producer places : List ℕ) (g : Graph) (producers : length producer ≡ 256) (made : Graph-made (stored-steps ps n) places consumer slot producer g) where
+    arena-held : Arena-held es line off m
+    arena-held =
+        record {
+          based =
+              based-of-sheet es m (k .exprs-held .few) (omega (arith, k .exprs-held .few, records)) (k .exprs-held .formed) (sheet es m ps n) (k .formed)
+              refl;
+          records = records;
+          lines = own .size;
+          switches = on .size;
+          below = λ p h. omega (arith, own .own p (omega (arith, k .exprs-held .few)));
+        }
+
+    steps-held : Steps-held ps n
+    steps-held = record { few = k .steps-held .few; size = steps; formed = λ i h. k .steps-held .each i h .formed }
+
+    pub fetch-asked : Fetch-asks es line off m ps n consumer slot producer (replicate 256 false) (g .edges) places (g .places)
+    fetch-asked =
+        record {
+          held =
+              record {
+                arena = arena-held;
+                steps-held = steps-held;
+                few = made .few-edges;
+                producers = producers;
+                marks = length-replicate {A = Bool} 256 false;
+              };
+          formed = subst WellFormed (sym sheet-at-start) (k .formed);
+          few = made .few-places;
+          places-are = made .places-are;
+          edges-are = edges-as-made consumer slot producer (g .edges) (made .producers) ∙ made .edges-are;
+        }
+
+-- What is written ----------------------------------------------------------------------------------------------------------------
+
+same-lines : (f g : ℕ → Edge) (k n : ℕ) → ((j : ℕ) → edge-line (f j) ≡ edge-line (g j))
+    → concat-map edge-line (table f k n) ≡ concat-map edge-line (table g k n)
+unfolding table concat-map
+same-lines f g k zero h = refl
+same-lines f g k (suc n) h = ap₂ (λ (x y : List ℕ). x ++ y) (h k) (same-lines f g (suc k) n h)
+
+-- a G line has no producer
+pub edges-printed : (consumer slot producer : List ℕ) (unordered : List Bool) (n : ℕ)
+    → concat-map edge-line (stored-edges consumer slot unordered n) ≡ concat-map edge-line (held-edges consumer slot producer unordered n)
+unfolding stored-edges stored-edge held-edges held-edge edge-line
+edges-printed consumer slot producer unordered n =
+    same-lines (stored-edge consumer slot unordered) (held-edge consumer slot producer unordered) 0 n (λ j. refl)
+
+finished-is : (r : Finished) {a b c d e v l : ℕ} → r .exprs ≡ a → r .steps ≡ b → r .edges ≡ c → r .length ≡ d → r .removed ≡ e → r .visits ≡ v
+    → r .looks ≡ l → r ≡ record { exprs = a; steps = b; edges = c; length = d; removed = e; visits = v; looks = l }
+finished-is r i j k l m n o = rw (← i, ← j, ← k, ← l, ← m, ← n, ← o)
+
+-- the blocks e, p, g, t are those of the run
+module _ (run : Run) (e p g t entry exit : List ℕ) (f : Finished) (w : Sheet-wrote e p g t entry exit f) (is-e : e ≡ exprs-block run)
+    (is-p : p ≡ steps-block run) (is-g : g ≡ edges-block run) (is-t : t ≡ tally-line run) where
+  blocks : Sheet-wrote (exprs-block run) (steps-block run) (edges-block run) (tally-line run) entry exit f
+  blocks = rw (← is-e, ← is-p, ← is-g, ← is-t) w
+
+  bytes-are : exit ≡ printed run ++ drop (length (printed run)) entry
+  unfolding printed
+  bytes-are = blocks .bytes
+
+  answer-is : f .removed ≡ length (run .removed) → f .visits ≡ run .visits → f .looks ≡ run .looks → f ≡ finished-answer run
+  unfolding finished-answer printed
+  answer-is x y z = finished-is f (blocks .exprs) (blocks .steps) (blocks .edges) (blocks .all) x y z
+
+module _ (recs line : List ℕ) (off : List Bool) (m : ℕ) (steps : List ℕ) (n : ℕ) (consumer slot : List ℕ) (unordered : List Bool) (edges removed : ℕ) (tally : Tally) (xs entry exit : List ℕ) (f : Finished) where
+  abbrev run : List ℕ → List ℕ → List ℕ → Run
+  run producer back gone = run-of recs line off m steps n consumer slot producer unordered edges back gone tally
+
+  pub run-wrote : stored-exprs xs m ≡ arena-of recs line off m
+      → Sheet-wrote (concat-map expr-line (stored-exprs xs m)) (concat-map step-line (stored-steps steps n)) (concat-map edge-line (stored-edges consumer slot unordered edges)) (text.line 84 (removed ∷ tally .visits ∷ tally .looks ∷ [])) entry exit f
+      → (f .removed ≡ removed) × (f .visits ≡ tally .visits) × (f .looks ≡ tally .looks)
+      → Run-wrote run removed entry exit f
+  unfolding exprs-block steps-block edges-block tally-line
+  run-wrote e w (x, y, z) =
+      record {
+        answer =
+            λ producer back gone same.
+            answer-is (run producer back gone) _ _ _ _ entry exit f w (ap (concat-map expr-line) e) refl
+            (edges-printed consumer slot producer unordered edges) (ap (λ (k : ℕ). text.line 84 (k ∷ tally .visits ∷ tally .looks ∷ [])) same)
+            (x ∙ same) y z;
+        bytes =
+            λ producer back gone same.
+            bytes-are (run producer back gone) _ _ _ _ entry exit f w (ap (concat-map expr-line) e) refl
+            (edges-printed consumer slot producer unordered edges) (ap (λ (k : ℕ). text.line 84 (k ∷ tally .visits ∷ tally .looks ∷ [])) same);
+      }
+
+-- What the walks' outcome makes of the call --------------------------------------------------------------------------------------
+
+pub held-run : (held : ℕ → Type 0) (r : Orderings) (f : Fetched) → r ≡ Orderings.Fetched f → Orderings-held held r → held (f .exprs)
+held-run held r f e h = subst (Orderings-held held) e h
+
+-- the walks went over a sheet that is sh
+module _ (sent sh : Sheet) (same : sent ≡ sh) (entry : List ℕ) (after : ℕ → List ℕ → List ℕ → Tally → Run) (r : Orderings)
+    (are : Orderings-are (simplify-and-fetch-orderings sent) after r) where
+  of-sheet : called entry (simplify-and-fetch-orderings sent) ≡ called entry (simplify-and-fetch-orderings sh)
+  of-sheet = ap (λ (x : Sheet). called entry (simplify-and-fetch-orderings x)) same
+
+  pub refused-call : (k : ℕ) → r ≡ Orderings.Refused k → call (Answer.Refused k) entry ≡ called entry (simplify-and-fetch-orderings sh)
+  unfolding called
+  refused-call k e =
+      sym (ap (called entry) (subst (Orderings-are (simplify-and-fetch-orderings sent) after) e are)) ∙ of-sheet
+
+  pub finished-call : (f : Fetched) → r ≡ Orderings.Fetched f → (run : List ℕ → List ℕ → List ℕ → Run) (producer exit : List ℕ) (w : Finished)
+      → ((back gone : List ℕ) → after (f .exprs) back gone (f .tally) ≡ run producer back gone) → Run-wrote run (f .removed) entry exit w
+      → call (Answer.Finished w) exit ≡ called entry (simplify-and-fetch-orderings sh)
+  unfolding called
+  finished-call f e run producer exit w is k =
+      let (back, gone, ends, count) = subst (Orderings-are (simplify-and-fetch-orderings sent) after) e are in
+      ap₂ (λ (x : Finished) (y : List ℕ). call (Answer.Finished x) y) (k .answer producer back gone count) (k .bytes producer back gone count)
+      ∙ sym (ap (called entry) (ends ∙ ap done (is back gone))) ∙ of-sheet

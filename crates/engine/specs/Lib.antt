@@ -1,0 +1,3 @@
+pub mod Lines
+pub mod Call
+pub mod Demand3
