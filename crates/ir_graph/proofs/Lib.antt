@@ -12,3 +12,4 @@ pub mod Outs
 pub mod NodeKey
 pub mod FirstMet
 pub mod UpdateCaches
+pub mod CachesKept

@@ -11,15 +11,13 @@ use lib.Seq.{getD-take, set-getD}
 use Rattle.plan.specs.declared.ir.IR.{IR}
 use Rattle.plan.specs.Kinds.{ir-number, same-ir}
 use Rattle.plan.specs.Lists.{if_then_else_}
-use Rattle.plan.specs.Sheet.{Step, Sheet, no-step, step-at}
+use Rattle.plan.specs.Sheet.{Step, no-step, step-at}
 use Rattle.plan.specs.Graph.{is-cache, popped}
-use Rattle.plan.specs.Stored.{stored-step, stored-steps, Step-formed}
+use Rattle.plan.specs.Stored.{stored-steps, Step-formed}
 use Rattle.plan.specs.StoredLaws.{table-at}
 use Rattle.plan.specs.StoredChanges.{formed-still, input-stored}
 use Rattle.plan.specs.Visit.{with-input}
-use Rattle.claims.specs.WellFormed.{WellFormed}
 use Rattle.claims.proofs.Booleans.{and-left, and-right}
-use Rattle.claims.proofs.CacheIds.{one-line-each-id}
 use Rattle.claims.proofs.Stays.{reads-kept}
 use Rattle.claims.proofs.StepTable.{same-kind, in-range, has-inputs}
 use Rattle.ir_graph.specs.Turns.{cached}
@@ -124,6 +122,27 @@ module _ (first : List ℕ) (ps : List Step) where
   unfolding update-cache-nodes
   all-lines m e q = rw (← e) q
 
+-- The line met first -------------------------------------------------------------------------------------------------------------
+
+line-at : (sent : List Step) (m : ℕ) → T (is-cache sent m) → getD (first-lines sent) m 0 ≡ first-met sent (popped sent) m
+unfolding first-lines
+line-at sent m t =
+    table-at (first-met sent (popped sent)) (length sent) m 0 (in-range sent m (ap ir-number (same-kind (step-at sent m .kind) IR.Cache t)))
+
+met-cache : (sent : List Step) (met : List ℕ) (m : ℕ) → T (is-cache sent m) → T (is-cache sent (first-met sent met m))
+unfolding first-met
+met-cache sent [] m t = t
+met-cache sent (k ∷ met) m t =
+    by (one-id sent k m) (and-left (is-cache sent k) (eqb (step-at sent k .a) (step-at sent m .a))) (met-cache sent met m t)
+  where
+    by : (b : Bool) → (T b → T (is-cache sent k)) → T (is-cache sent (first-met sent met m)) → T (is-cache sent (if b then k else first-met sent met m))
+    by true c _ = c tt
+    by false _ c = c
+
+-- it is a Cache
+pub first-cache : (sent : List Step) (m : ℕ) → T (is-cache sent m) → T (is-cache sent (getD (first-lines sent) m 0))
+first-cache sent m t = rw (line-at sent m t) (met-cache sent (popped sent) m t)
+
 -- One line for each id -----------------------------------------------------------------------------------------------------------
 
 -- a Cache whose own line was met first keeps its input
@@ -176,12 +195,19 @@ module _ (sent : List Step) (one-line : One-line-each-id sent) where
       by true e _ = e tt
       by false _ e = e
 
-  own-first : (m : ℕ) → T (is-cache sent m) → getD (first-lines sent) m 0 ≡ m
-  unfolding first-lines
-  own-first m t =
-      table-at (first-met sent (popped sent)) (length sent) m 0 (in-range sent m (ap ir-number (same-kind (step-at sent m .kind) IR.Cache t)))
-      ∙ own-met (popped sent) m t
-
   -- nothing is updated, if no step has become a Cache since
   pub nothing-updated : (ps : List Step) → ((m : ℕ) → T (is-cache ps m) → T (is-cache sent m)) → update-cache-nodes (first-lines sent) ps ≡ ps
-  nothing-updated ps cached-then = own-kept (first-lines sent) ps (λ m t. own-first m (cached-then m t))
+  nothing-updated ps cached-then = own-kept (first-lines sent) ps (λ m t. line-at sent m (cached-then m t) ∙ own-met (popped sent) m (cached-then m t))
+
+-- A case: two lines of one id, the second met first ------------------------------------------------------------------------------
+
+cache-of : ℕ → Step
+cache-of input = record { kind = IR.Cache; a = 5; b = 0; c = 0; inputs = input ∷ []; exprs = []; aggs = [] }
+
+two-lines : first-met (cache-of 7 ∷ cache-of 9 ∷ []) (1 ∷ 0 ∷ []) 0 ≡ 1
+unfolding first-met cache-of
+two-lines = refl
+
+second-first : update-cache-nodes (1 ∷ 1 ∷ []) (cache-of 7 ∷ cache-of 9 ∷ []) ≡ cache-of 9 ∷ cache-of 9 ∷ []
+unfolding update-cache-nodes update-lines update-cache-node cache-of
+second-first = refl

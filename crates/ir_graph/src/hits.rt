@@ -41,7 +41,8 @@ fn meet(
     copy_inputs(steps, i, stack, len)
 }
 
-// How often each Cache is met, into `hits`, and the steps as they are popped, into `met`. The result is the number of turns: the Rust's `iterations`.
+// How often each Cache is met, into `hits`, and the steps in the order in which they are popped, into `met`.
+// The result is the number of turns: the Rust's `iterations`.
 pub fn count_hits(steps: &[u8; 1024], n: usize, hits: &mut [u8; 32], met: &mut [u8; 288]) -> usize
     requires { ⌜ n ≤ 32 ⌝ }
     requires { ⌜ Plan (stored-steps (now steps) n) ⌝ }
