@@ -92,3 +92,7 @@ sort-has-one-input = one-input IR.Sort refl refl
 pub sink-has-one-input : (s : Step) → s .kind ≡ IR.Sink → T (in-step-table s) → length (s .inputs) ≡ 1
 unfolding step-table
 sink-has-one-input = one-input IR.Sink refl refl
+
+pub cache-has-one-input : (s : Step) → s .kind ≡ IR.Cache → T (in-step-table s) → length (s .inputs) ≡ 1
+unfolding step-table
+cache-has-one-input = one-input IR.Cache refl refl

@@ -82,16 +82,21 @@ module _ (n : ℕ) (r : Run) {r′ : Run} (e : simplify-ir-node-orders n r ≡ d
         | inr (_, i) ↦ subst Kept (sym i) (every-set Readable no-step (r .steps) n _ k (readable-ruled n (one-visit r) (k n)))
       ]
 
-  -- a step has as many inputs as it had
-  inputs-kept : (m : ℕ) → length (step-at (r′ .steps) m .inputs) ≡ length (step-at (r .steps) m .inputs)
+  -- what is read of a step, if neither another input in a slot nor the rule changes it
+  pub step-kept : {A : Type 0} (f : Step → A) → ((k v : ℕ) (s : Step) → f (with-input k v s) ≡ f s) → f (ruling n (one-visit r) .0) ≡ f (step-at (r .steps) n)
+      → (m : ℕ) → f (step-at (r′ .steps) m) ≡ f (step-at (r .steps) m)
   unfolding unlink-node settled
-  inputs-kept m =
-      let count : Step → ℕ = λ s. length (s .inputs) in
-      let Kept : Run → Type 0 = λ q. count (step-at (q .steps) m) ≡ count (step-at (r .steps) m) in
+  step-kept f linked ruled m =
+      let c = out-edge n (r .edges) .consumer in
+      let Kept : Run → Type 0 = λ q. f (step-at (q .steps) m) ≡ f (step-at (r .steps) m) in
       elim (two-ways n r e) [
-        | inl (_, i) ↦ subst Kept (sym i) (reads-kept count (r .steps) (out-edge n (r .edges) .consumer) _ (simp length-set) m)
-        | inr (_, i) ↦ subst Kept (sym i) (reads-kept count (r .steps) n _ (ap length (inputs-ruled n (one-visit r))) m)
+        | inl (_, i) ↦ subst Kept (sym i) (reads-kept f (r .steps) c _ (linked _ _ (step-at (r .steps) c)) m)
+        | inr (_, i) ↦ subst Kept (sym i) (reads-kept f (r .steps) n _ ruled m)
       ]
+
+  -- a step has as many inputs as it had
+  pub inputs-kept : (m : ℕ) → length (step-at (r′ .steps) m .inputs) ≡ length (step-at (r .steps) m .inputs)
+  inputs-kept = step-kept (λ s. length (s .inputs)) (λ k v s. length-set (s .inputs) k v) (ap length (inputs-ruled n (one-visit r)))
 
   -- an edge leads where it led
   end-kept : (k : ℕ) → k < length (r .edges) → (edge-at k r′ .consumer ≡ edge-at k r .consumer) × (edge-at k r′ .slot ≡ edge-at k r .slot)

@@ -5,10 +5,10 @@ use Prim.Native.Nat.{ℕ, zero, suc, _+_, _≤_, _<_}
 use native.Mathlib.Omega.{arith}
 use native.Mathlib.Decide.{ℕ-discrete}
 use mathlib.Core.Bool.{Bool, true, false, _&&_}
-use mathlib.Core.List.{List, [], _∷_, _++_, reverse, reverse-append, List·Memᴰ, List·Memᴰ·head, List·Memᴰ·not-nil, List·Memᴰ·append-cases, Memᴰ·append-left}
+use mathlib.Core.List.{List, [], _∷_, _++_, reverse, reverse-append, List·Memᴰ, List·Memᴰ·head, List·Memᴰ·not-nil, List·Memᴰ·append-cases, List·Memᴰ·cases-cons, Memᴰ·append-left}
 use lib.Dec.{T, eqb, ltb, ltb→lt, lt→ltb}
 use lib.ListN.{length, getD, take, set, replicate, length-append, length-reverse, length-take, length-set}
-use lib.Seq.{take-suc, getD-set-same, getD-set-other}
+use lib.Seq.{take-suc, getD-set-same, getD-set-other, getD-take}
 use Rattle.plan.specs.declared.ir.IR.{IR}
 use Rattle.plan.specs.Kinds.{same-ir}
 use Rattle.plan.specs.Lists.{if_then_else_, any?, sum, among, times}
@@ -17,20 +17,23 @@ use Rattle.plan.specs.Faults.{named}
 use Rattle.plan.specs.Graph.{sinks, is-cache, most-places, pushes, pop, popped}
 use Rattle.plan.specs.Stored.{stored-step, stored-steps, Step-formed}
 use Rattle.claims.proofs.Booleans.{T-eq}
-use Rattle.claims.proofs.Counts.{sum-append, sum-reverse, sum-le, sum-ones, times-same, times-other, mem-reverse, only}
+use Rattle.claims.proofs.Counts.{sum-append, sum-reverse, sum-le, sum-ones, times-same, times-other, mem-reverse, mem-at, only}
 use Rattle.claims.proofs.Plans.{Plan, root-there, input-there, cache-named}
 use Rattle.claims.proofs.Reached.{followed-le, followed-none}
 use Rattle.claims.proofs.Hits.{Counted, counted-next, among-times, times-among}
 use Rattle.ir_graph.specs.Pushed.{Pushed}
 use Rattle.ir_graph.specs.Turns.{cached, pushed-by, hit}
-use Rattle.ir_graph.specs.Hits.{Hits-counted}
+use Rattle.ir_graph.specs.Hits.{Hits-counted, Met-noted}
 use Rattle.ir_graph.proofs.Bounds.{length-steps, step-there, cache-there, namings, roots}
+use Rattle.ir_graph.proofs.Pushing.{pushed-one}
 
--- `met` was popped, the first `len` bytes of `stack` wait, and what is left of the pass comes to the whole of it
-pub record Popping (ps : List Step) (stack counts : List ℕ) (len turns : ℕ) : Type 0 where
+-- `met` was popped and is noted in `order`, the first `len` bytes of `stack` wait, and what is left of the pass comes to the whole of it
+pub record Popping (ps : List Step) (stack counts order : List ℕ) (len turns : ℕ) : Type 0 where
   pub met : List ℕ
   pub fuel : ℕ
   pub popped-so-far : turns ≡ length met
+  pub noted : take turns order ≡ met
+  pub met-there : (m : ℕ) → List·Memᴰ m met → m < length ps
   pub left : turns + fuel ≡ most-places ps
   pub ends : pop fuel ps met (reverse (take len stack)) ≡ popped ps
   pub counted : Counted ps met (reverse (take len stack))
@@ -39,6 +42,7 @@ pub record Popping (ps : List Step) (stack counts : List ℕ) (len turns : ℕ) 
   pub room : length stack ≡ 288
   pub fits : len ≤ 288
   pub size : length counts ≡ 32
+  pub order-size : length order ≡ 288
 
 -- what a turn at the step `top` may rely on, with k waiting below it
 pub record Turn (bytes : List ℕ) (n : ℕ) (counts : List ℕ) (k turns top : ℕ) : Type 0 where
@@ -75,14 +79,16 @@ module _ (bytes : List ℕ) (n : ℕ) (small : n ≤ 32) (plan : Plan (stored-st
   few met stack c =
       omega (arith, c (λ _. 1), followed-le (λ _. 1) ps (λ m. among m met), sum-ones met, sum-ones stack, sum-ones (sinks ps), sum-ones (named ps))
 
-  pub begins : (stack stack₀ counts : List ℕ) (len : ℕ) → length stack₀ ≡ 288 → length counts ≡ 32 → ((i : ℕ) → getD counts i 0 ≡ 0)
-      → Pushed (sinks ps) stack₀ 0 stack len → Popping ps stack counts len 0
+  pub begins : (stack stack₀ counts order : List ℕ) (len : ℕ) → length stack₀ ≡ 288 → length counts ≡ 32 → length order ≡ 288 → ((i : ℕ) → getD counts i 0 ≡ 0)
+      → Pushed (sinks ps) stack₀ 0 stack len → Popping ps stack counts order len 0
   unfolding popped sum any?
-  begins stack stack₀ counts len r s z p =
+  begins stack stack₀ counts order len r s o z p =
       record {
         met = [];
         fuel = most-places ps;
         popped-so-far = refl;
+        noted = refl;
+        met-there = λ m i. absurd (List·Memᴰ·not-nil i);
         left = omega arith;
         ends = rw (p .entries);
         counted = rw (p .entries) (λ w. omega (arith, none w, sum-reverse w (sinks ps), followed-none w ps (λ n. among n []) (λ n. refl)));
@@ -91,22 +97,42 @@ module _ (bytes : List ℕ) (n : ℕ) (small : n ≤ 32) (plan : Plan (stored-st
         room = p .size ∙ r;
         fits = omega (arith, p .len, roots bytes n small plan formed);
         size = s;
+        order-size = o;
       }
     where
       none : (w : ℕ → ℕ) → sum w [] ≡ 0
       none w = refl
 
-  pub ended : (stack counts : List ℕ) (len turns : ℕ) → Popping ps stack counts len turns → len ≡ 0 → Hits-counted ps counts × (turns ≡ length (popped ps))
-  unfolding pop
-  ended stack counts len turns p e = by (p .fuel) (rw e at (p .ends))
-    where
-      by : (f : ℕ) → pop f ps (p .met) (reverse (take 0 stack)) ≡ popped ps → Hits-counted ps counts × (turns ≡ length (popped ps))
-      by zero q = (record { size = p .size; caches = λ m t. rw (← q) (p .caches m t) }, rw (← q) (p .popped-so-far))
-      by (suc f) q = (record { size = p .size; caches = λ m t. rw (← q) (p .caches m t) }, rw (← q) (p .popped-so-far))
+  module _ (stack counts order : List ℕ) (len turns : ℕ) (p : Popping ps stack counts order len turns) (e : len ≡ 0) where
+    all-met : p .met ≡ popped ps
+    unfolding pop
+    all-met = by (p .fuel) (rw e at (p .ends))
+      where
+        by : (f : ℕ) → pop f ps (p .met) (reverse (take 0 stack)) ≡ popped ps → p .met ≡ popped ps
+        by zero q = q
+        by (suc f) q = q
+
+    pub hits-ended : Hits-counted ps counts
+    hits-ended = record { size = p .size; caches = λ m t. rw (← all-met) (p .caches m t) }
+
+    pub turns-ended : turns ≡ length (popped ps)
+    turns-ended = p .popped-so-far ∙ ap length all-met
+
+    pub noted-ended : Met-noted ps order turns
+    noted-ended =
+        let few : turns ≤ 288 = omega (arith, p .popped-so-far, p .left, namings bytes n small plan formed, roots bytes n small plan formed) in
+        record {
+          order = p .noted ∙ all-met;
+          few = few;
+          there =
+              λ k h.
+              subst (λ (m : ℕ). m < length ps) (getD-take turns order k 0 h)
+              (p .met-there _ (subst (List·Memᴰ _) (p .noted) (mem-at (take turns order) k 0 (simp length-take (omega (arith, few, p .order-size))))));
+        }
 
   -- One turn: the step on top of the stack ---------------------------------------------------------------------------------------
 
-  module _ (stack counts : List ℕ) (len turns k : ℕ) (p : Popping ps stack counts len turns) (e : len ≡ suc k) where
+  module _ (stack counts order : List ℕ) (len turns k : ℕ) (p : Popping ps stack counts order len turns) (e : len ≡ suc k) where
     abbrev top : ℕ
     top = getD stack k 0
 
@@ -202,7 +228,8 @@ module _ (bytes : List ℕ) (n : ℕ) (small : n ≤ 32) (plan : Plan (stored-st
             let none : times m (top ∷ []) ≡ 0 = times-other m top [] h in
             other (cached bytes top) h ∙ omega (arith, p .caches m t, more, none)
 
-    pub popping-next : (stack′ counts′ : List ℕ) (r : ℕ) → Pushed new stack k stack′ r → counts′ ≡ hit bytes counts top → Popping ps stack′ counts′ r (turns + 1)
+    pub popping-next : (stack′ counts′ : List ℕ) (r : ℕ) → Pushed new stack k stack′ r → counts′ ≡ hit bytes counts top
+        → Popping ps stack′ counts′ (set order turns top) r (turns + 1)
     unfolding pop hit pushes
     popping-next stack′ counts′ r q h =
         let (f, g) = some-fuel (p .fuel) (p .left) in
@@ -210,6 +237,13 @@ module _ (bytes : List ℕ) (n : ℕ) (small : n ≤ 32) (plan : Plan (stored-st
           met = p .met ++ (top ∷ []);
           fuel = f;
           popped-so-far = omega (arith, p .popped-so-far, length-append (p .met) (top ∷ []));
+          noted = pushed-one order turns top (omega (arith, turn .few, p .order-size)) .entries ∙ ap (λ (l : List ℕ). l ++ (top ∷ [])) (p .noted);
+          met-there =
+              λ m i.
+              elim (List·Memᴰ·append-cases (p .met) i) [
+                | inl j ↦ p .met-there m j
+                | inr j ↦ elim (List·Memᴰ·cases-cons j) [ inl q ↦ omega (arith, q, length-steps bytes n, top-there) | inr q ↦ absurd (List·Memᴰ·not-nil q) ]
+              ];
           left = omega (arith, p .left, g);
           ends =
               rw (q .entries, reverse-append (take k stack) new)
@@ -226,6 +260,7 @@ module _ (bytes : List ℕ) (n : ℕ) (small : n ≤ 32) (plan : Plan (stored-st
           room = q .size ∙ p .room;
           fits = omega (arith, q .len, room-new);
           size = rw h (size-after (cached bytes top));
+          order-size = length-set order turns top ∙ p .order-size;
         }
       where
         some-fuel : (x : ℕ) → turns + x ≡ most-places ps → (f : ℕ) × (x ≡ suc f)

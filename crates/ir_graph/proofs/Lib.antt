@@ -10,3 +10,6 @@ pub mod There
 pub mod Graphs
 pub mod Outs
 pub mod NodeKey
+pub mod FirstMet
+pub mod UpdateCaches
+pub mod CachesKept

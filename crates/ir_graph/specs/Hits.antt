@@ -1,12 +1,18 @@
--- What the first pass hands to the second.
+-- What the first pass hands on: to the second pass, and to update_cache_nodes.
 use mathlib.Core.Path.{_≡_}
-use Prim.Native.Nat.{ℕ}
+use Prim.Native.Nat.{ℕ, _≤_, _<_}
 use mathlib.Core.List.{List}
 use lib.Dec.{T}
-use lib.ListN.{length, getD}
+use lib.ListN.{length, getD, take}
 use Rattle.plan.specs.Sheet.{Step}
 use Rattle.plan.specs.Graph.{popped, is-cache, hits}
 
 pub record Hits-counted (ps : List Step) (counts : List ℕ) : Type 0 where
   pub size : length counts ≡ 32
   pub caches : (m : ℕ) → T (is-cache ps m) → getD counts m 0 ≡ hits (popped ps) m
+
+-- the first `turns` entries of `met` are the steps in the order in which they were popped
+pub record Met-noted (ps : List Step) (met : List ℕ) (turns : ℕ) : Type 0 where
+  pub order : take turns met ≡ popped ps
+  pub few : turns ≤ 288
+  pub there : (k : ℕ) → k < turns → getD met k 0 < length ps

@@ -5,3 +5,4 @@ pub mod Edges
 pub mod Built
 pub mod Outs
 pub mod NodeKey
+pub mod UpdateCaches

@@ -107,7 +107,8 @@ pub fn build_ir_traversal_graph(
     ensures { λ r. ⌜ Out-edges (stored-steps (now (steps .entry)) n) (graph (stored-steps (now (steps .entry)) n) .1) (now («out_edge» .exit)) ⌝ }
 {
     let mut hits: [u8; 32] = [0; 32];
-    count_hits(steps, n, &mut hits);
+    let mut met: [u8; 288] = [0; 288];
+    count_hits(steps, n, &mut hits, &mut met);
     let g = grow(
         steps,
         n,

@@ -1,5 +1,6 @@
 // The visiting list and the edges: ir_node_key.rs and ir_graph.rs.
 pub mod edges; // edges.rt: the edges of one step
+pub mod first_met; // first_met.rt: the line of each cache id that is met first
 pub mod hits; // hits.rt: the first pass
 pub mod ir_graph; // ir_graph.rt: the second pass
 pub mod ir_node_key; // ir_node_key.rt: IRNodeKey
@@ -7,3 +8,4 @@ pub mod out_edges; // out_edges.rt: the edge that leaves a step
 pub mod roots; // roots.rt: the roots
 pub mod sizes; // sizes.rt: the lengths of arrays, for proofs
 pub mod stored; // stored.rt: a step's kind and inputs, where they are stored
+pub mod update_cache_nodes; // update_cache_nodes.rt: update_cache_nodes

@@ -1,0 +1,80 @@
+-- The walks keep which steps are Caches and how many inputs a step has, so update_cache_nodes may follow them, and changes nothing.
+use mathlib.Core.Path.{_≡_, refl, sym, ap, _∙_, subst}
+use mathlib.Core.Logic.{inl, inr}
+use mathlib.Core.List.{List}
+use Prim.Native.Nat.{ℕ}
+use native.Mathlib.Omega.{arith}
+use lib.Dec.{T}
+use lib.ListN.{length, getD}
+use Rattle.plan.specs.declared.ir.IR.{IR}
+use Rattle.plan.specs.Kinds.{ir-number, same-ir}
+use Rattle.plan.specs.Sheet.{Step, Sheet, done, no-step, step-at, in-step-table}
+use Rattle.plan.specs.Graph.{graph, is-cache}
+use Rattle.plan.specs.Visit.{Run, Around, Observable, rule, ruling, looked-in, looks-of, one-visit, simplify-ir-node-orders}
+use Rattle.plan.specs.Walks.{begin, down, up, simplify-and-fetch-orderings}
+use Rattle.claims.specs.WellFormed.{WellFormed}
+use Rattle.claims.proofs.Booleans.{T-eq, all-at}
+use Rattle.claims.proofs.CacheIds.{one-line-each-id}
+use Rattle.claims.proofs.Outcomes.{both-done}
+use Rattle.claims.proofs.Rules.{ruled-by}
+use Rattle.claims.proofs.StepTable.{same-kind, in-range, cache-has-one-input}
+use Rattle.claims.proofs.Visitables.{step-kept, inputs-kept}
+use Rattle.claims.proofs.Walks.{walk-keeps}
+use Rattle.ir_graph.specs.UpdateCaches.{first-lines, update-cache-nodes, Updatable}
+use Rattle.ir_graph.proofs.UpdateCaches.{first-cache, nothing-updated}
+
+-- A visit ------------------------------------------------------------------------------------------------------------------------
+
+ruled-cache : (s : Step) (e : Around) (o : Observable) → s .kind ≡ IR.Cache → rule s e o (s .kind) .0 .kind ≡ IR.Cache
+unfolding rule
+ruled-cache s e o i = ap (λ (k : IR). rule s e o k .0 .kind) i ∙ i
+
+cache-ruled : (n : ℕ) (r : Run) → same-ir (ruling n r .0 .kind) IR.Cache ≡ is-cache (r .steps) n
+unfolding ruling looked-in looks-of
+cache-ruled n r =
+    let Is : IR → Type 0 = λ k. T (same-ir k IR.Cache) in
+    T-eq (same-ir (ruling n r .0 .kind) IR.Cache) (is-cache (r .steps) n)
+    (λ t. elim (ruled-by n r .lists) [ inl (_, _, k) ↦ subst Is k t | inr (_, _, k) ↦ absurd (subst Is k t) ])
+    (λ t. subst Is (sym (ruled-cache (looked-in n r .step) _ (looked-in n r .observable) (same-kind (step-at (r .steps) n .kind) IR.Cache t))) tt)
+
+-- Both walks ---------------------------------------------------------------------------------------------------------------------
+
+pub record Same-caches (sent ps : List Step) : Type 0 where
+  pub cache : (m : ℕ) → is-cache ps m ≡ is-cache sent m
+  pub inputs : (m : ℕ) → length (step-at ps m .inputs) ≡ length (step-at sent m .inputs)
+
+same-visit : (sent : List Step) (n : ℕ) (ns : List ℕ) (r r′ : Run) → Same-caches sent (r .steps) → simplify-ir-node-orders n r ≡ done r′ → Same-caches sent (r′ .steps)
+same-visit sent n ns r r′ s e =
+    record {
+      cache = λ m. step-kept n r e (λ x. same-ir (x .kind) IR.Cache) (λ k v x. refl) (cache-ruled n (one-visit r)) m ∙ s .cache m;
+      inputs = λ m. inputs-kept n r e m ∙ s .inputs m;
+    }
+
+pub same-after : (sh : Sheet) (r : Run) → simplify-and-fetch-orderings sh ≡ done r → Same-caches (sh .steps) (r .steps)
+unfolding simplify-and-fetch-orderings down up begin
+same-after sh r e =
+    let Same : List ℕ → Run → Type 0 = λ ns q. Same-caches (sh .steps) (q .steps) in
+    let (half, first, second) = both-done (down sh) up e in
+    let there = walk-keeps Same (same-visit (sh .steps)) (graph (sh .steps) .0) (begin sh) (record { cache = λ m. refl; inputs = λ m. refl }) first in
+    walk-keeps Same (same-visit (sh .steps)) (half .back) half there second
+
+-- update_cache_nodes after them --------------------------------------------------------------------------------------------------
+
+module _ (sh : Sheet) (w : WellFormed sh) (r : Run) (e : simplify-and-fetch-orderings sh ≡ done r) where
+  pub updatable-after : Updatable (first-lines (sh .steps)) (r .steps)
+  updatable-after =
+      let same = same-after sh r e in
+      record {
+        input =
+            λ m t.
+            let k = same-kind (step-at (sh .steps) m .kind) IR.Cache (subst T (same .cache m) t) in
+            let row = all-at in-step-table (sh .steps) no-step (w .steps-in-table) m (in-range (sh .steps) m (ap ir-number k)) in
+            omega (arith, same .inputs m, cache-has-one-input (step-at (sh .steps) m) k row);
+        cache =
+            λ m t.
+            subst T (sym (same .cache (getD (first-lines (sh .steps)) m 0))) (first-cache (sh .steps) m (subst T (same .cache m) t));
+      }
+
+  -- so the definition of the walks leaves it out
+  pub nothing-updated-after : update-cache-nodes (first-lines (sh .steps)) (r .steps) ≡ r .steps
+  nothing-updated-after = nothing-updated (sh .steps) (one-line-each-id sh w) (r .steps) (λ m t. subst T (same-after sh r e .cache m) t)

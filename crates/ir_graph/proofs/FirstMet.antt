@@ -1,0 +1,80 @@
+-- The line of an id that is met first: going through the steps met, and the table of them.
+use mathlib.Core.Path.{_≡_, refl, sym, ap, ap₂, _∙_}
+use mathlib.Core.List.{List, [], _∷_, _++_}
+use Prim.Native.Nat.{ℕ, suc, _+_, _*_, _≤_, _<_}
+use native.Mathlib.Omega.{arith}
+use native.Mathlib.Numerals.{add-one}
+use mathlib.Core.Bool.{Bool, true, false, _&&_}
+use lib.Dec.{eqb}
+use lib.ListN.{length, getD, take, drop, set, length-take, drop-of-length-le}
+use lib.Seq.{drop-cons, getD-take, getD-drop}
+use Rattle.plan.specs.Sheet.{Step, step-at, step-of}
+use Rattle.plan.specs.Graph.{popped}
+use Rattle.plan.specs.Stored.{table, stored-step, stored-steps}
+use Rattle.ir_graph.specs.Turns.{cached}
+use Rattle.ir_graph.specs.UpdateCaches.{one-id, first-met, first-lines}
+use Rattle.ir_graph.proofs.Bounds.{length-steps, step-there, cache-there}
+use Rattle.ir_graph.proofs.Pushing.{pushed-one, table-more}
+
+-- Two lines with one id ----------------------------------------------------------------------------------------------------------
+
+module _ (bytes : List ℕ) (n : ℕ) where
+  abbrev ps : List Step
+  ps = stored-steps bytes n
+
+  id-there : (i : ℕ) → i < n → step-at ps i .a ≡ getD bytes (i * 32 + 1) 0
+  unfolding stored-step step-of
+  id-there i h = ap (λ (s : Step). s .a) (step-there bytes n i h) ∙ getD-drop (i * 32) bytes 1 0
+
+  module _ (k m : ℕ) (here : k < n) where
+    kind-first : (b : Bool) → cached bytes k ≡ b → one-id ps k m ≡ (b && eqb (step-at ps k .a) (step-at ps m .a))
+    kind-first b e = ap (λ (x : Bool). x && eqb (step-at ps k .a) (step-at ps m .a)) (cache-there bytes n k here ∙ e)
+
+    pub other-kind : cached bytes k ≡ false → false ≡ one-id ps k m
+    other-kind e = sym (kind-first false e)
+
+    pub by-id : m < n → cached bytes k ≡ true → eqb (getD bytes (k * 32 + 1) 0) (getD bytes (m * 32 + 1) 0) ≡ one-id ps k m
+    by-id there e = ap₂ (λ (x y : ℕ). eqb x y) (sym (id-there k here)) (sym (id-there m there)) ∙ sym (kind-first true e)
+
+-- Going through the steps met ----------------------------------------------------------------------------------------------------
+
+module _ (ps : List Step) (met : List ℕ) (turns m : ℕ) (few : turns ≤ length met) where
+  -- what is left of them
+  abbrev left : ℕ → List ℕ
+  left k = drop k (take turns met)
+
+  length-met : length (take turns met) ≡ turns
+  length-met = simp length-take (omega arith)
+
+  next : (k : ℕ) → k < turns → left k ≡ getD met k 0 ∷ left (suc k)
+  next k h = drop-cons (take turns met) k 0 (omega (arith, length-met)) ∙ ap (λ (x : ℕ). x ∷ left (suc k)) (getD-take turns met k 0 h)
+
+  pub met-here : (k : ℕ) → k < turns → one-id ps (getD met k 0) m ≡ true → first-met ps (left k) m ≡ getD met k 0
+  unfolding first-met
+  met-here k h e = rw (next k h, e)
+
+  pub met-later : (k : ℕ) → k < turns → one-id ps (getD met k 0) m ≡ false → first-met ps (left (k + 1)) m ≡ first-met ps (left k) m
+  unfolding first-met
+  met-later k h e = rw (add-one, next k h, e)
+
+  pub none-met : (k : ℕ) → turns ≤ k → first-met ps (left k) m ≡ m
+  unfolding first-met
+  none-met k h = rw (drop-of-length-le (take turns met) {i = k} (omega (arith, length-met)))
+
+-- The table ----------------------------------------------------------------------------------------------------------------------
+
+pub none-noted : (f : ℕ → ℕ) (first : List ℕ) → take 0 first ≡ table f 0 0
+unfolding table
+none-noted f first = refl
+
+pub one-noted : (f : ℕ → ℕ) (first : List ℕ) (m v : ℕ) → m < length first → take m first ≡ table f 0 m → v ≡ f m
+    → take (m + 1) (set first m v) ≡ table f 0 (m + 1)
+one-noted f first m v h e q =
+    pushed-one first m v h .entries ∙ ap₂ (λ (l : List ℕ) (x : ℕ). l ++ (x ∷ [])) e q ∙ sym (table-more f m)
+
+pub all-noted : (bytes : List ℕ) (n : ℕ) (met first : List ℕ) (m : ℕ) → met ≡ popped (stored-steps bytes n) → m ≡ n
+    → take m first ≡ table (first-met (stored-steps bytes n) met) 0 m → take n first ≡ first-lines (stored-steps bytes n)
+unfolding first-lines
+all-noted bytes n met first m o e t =
+    ap (λ (k : ℕ). take k first) (sym e) ∙ t
+    ∙ ap₂ (λ (l : List ℕ) (k : ℕ). table (first-met (stored-steps bytes n) l) 0 k) o (e ∙ sym (length-steps bytes n))
