@@ -1,7 +1,9 @@
 #!/usr/bin/env python3
 """Freezes sheets with the Rust's answers, for the crate replay.
 
-    oracle/freeze_sheets.py > crates/replay/data/cases
+    oracle/freeze_sheets.py
+
+It writes crates/replay/data/cases, and crates/replay/stdout: what the program has to print.
 
 A case is seven bytes, then the sheet, then the finished sheet. The seven are the sheet's length, the length of the output
 to lend, the number of the refusal (0: finished) and the finished sheet's length: two bytes for a length, the high one first.
@@ -20,7 +22,9 @@ import sys
 sys.dont_write_bytecode = True
 from hand_made_sheets import ALL
 
-BIN = pathlib.Path(__file__).resolve().parent / "target" / "release"
+ROOT = pathlib.Path(__file__).resolve().parent.parent
+BIN = ROOT / "oracle" / "target" / "release"
+REPLAY = ROOT / "crates" / "replay"
 MARK = b"---\n"
 BATCHES = [("valid", 41, 150), ("small", 42, 200), ("limit", 43, 50), ("deep", 44, 60), ("near", 45, 120), ("noise", 46, 60)]
 
@@ -74,23 +78,32 @@ def two(n):
     return bytes(divmod(n, 256))
 
 
+def number(answer):
+    """The refusal's number; 0 for a finished sheet."""
+    return int(answer[2:]) if answer.startswith(b"R,") else 0
+
+
 def case_bytes(sheet, n, answer):
-    number = int(answer[2:]) if answer.startswith(b"R,") else 0
-    finished = b"" if number else answer
+    finished = b"" if number(answer) else answer
     assert len(sheet) <= 20000 and n <= 20000
-    return two(len(sheet)) + two(n) + bytes([number]) + two(len(finished)) + sheet + finished
+    return two(len(sheet)) + two(n) + bytes([number(answer)]) + two(len(finished)) + sheet + finished
+
+
+def report(cases):
+    counts = collections.Counter(number(answer) for _, _, answer in cases)
+    assert sorted(counts) == list(range(12))
+    lines = [f"{len(cases)} of {len(cases)} agree", f"finished: {counts[0]}"]
+    return "\n".join(lines + [f"refused by {n}: {counts[n]}" for n in range(1, 12)]) + "\n"
 
 
 def main():
     cases = list(hand_made())
     for batch in BATCHES:
         cases += generated(*batch)
-    counts = collections.Counter(int(a[2:]) if a.startswith(b"R,") else 0 for _, _, a in cases)
-    assert sorted(counts) == list(range(12))
     data = b"".join(case_bytes(*case) for case in cases)
-    print(f"{len(cases)} cases, {len(data)} bytes; by number (0: finished) {sorted(counts.items())}", file=sys.stderr)
     assert len(data) < 1_500_000
-    sys.stdout.buffer.write(data)
+    (REPLAY / "data" / "cases").write_bytes(data)
+    (REPLAY / "stdout").write_text(report(cases))
 
 
 main()

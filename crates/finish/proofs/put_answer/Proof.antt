@@ -11,31 +11,24 @@ use Rattle.finish.proofs.put_answer.Lts as lts
 use Rattle.finish.proofs.put_refusal.Reads as put-refusal-reads
 use Rattle.io.proofs.write_all.Reads as write-all-reads
 
--- src/main.rt:57:26
 enum-known-answer : tie.Need-enum-known-answer
 enum-known-answer c = search needs
 
--- src/main.rt:59:42
 slice-aggregate-write-all : tie.Need-slice-aggregate-write-all
 slice-aggregate-write-all c = sym (length-take-le _ (c .before .before .before .before .before .args .out .now) (subst (λ a. answer-length a ≤ length (c .before .before .before .before .before .args .out .now)) (c .before .before .answer .given .1) (c .before .before .before .before .before .pre)))
 
--- src/main.rt:59:13
 write-all-requires : tie.Need-write-all-requires
 write-all-requires c κs = search needs
 
--- src/main.rt:61:25
 enum-known-answer-2 : tie.Need-enum-known-answer-2
 enum-known-answer-2 c = search needs
 
--- src/main.rt:61:36
 put-refusal-requires : tie.Need-put-refusal-requires
 put-refusal-requires c κs = search needs
 
--- src/main.rt:53:1
 returns : tie.Need-returns
 returns c = search needs
 
--- src/main.rt:53:1
 returns-2 : tie.Need-returns-2
 returns-2 c = search needs
 

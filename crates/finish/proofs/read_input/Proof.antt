@@ -16,59 +16,45 @@ Inv-loop buf₀ done₀ buf done = (done ≤ length buf) × (length buf ≡ leng
 abbrev μ-loop : tie.MeasureT-loop
 μ-loop buf₀ done₀ buf done = length buf - done
 
--- src/main.rt:32:5
 loop-holds : tie.Need-loop-holds Inv-loop μ-loop
 loop-holds c = search needs
 
--- src/main.rt:33:29
 sub-read-once : tie.Need-sub-read-once Inv-loop μ-loop
 sub-read-once c = search needs
 
--- src/main.rt:33:29
 part-read-once-start : tie.Need-part-read-once-start Inv-loop μ-loop
 part-read-once-start c = search needs
 
--- src/main.rt:33:29
 part-read-once-end : tie.Need-part-read-once-end Inv-loop μ-loop
 part-read-once-end c = search needs
 
--- src/main.rt:33:13
 read-once-requires : tie.Need-read-once-requires Inv-loop μ-loop
 read-once-requires c κs = search needs
 
--- src/main.rt:35:13
 same-length : tie.Need-same-length Inv-loop μ-loop
 same-length c = search needs
 
--- src/main.rt:35:13
 returns : tie.Need-returns Inv-loop μ-loop
 returns c = search needs
 
--- src/main.rt:43:9
 add-done : tie.Need-add-done Inv-loop μ-loop
 add-done c = search needs
 
--- src/main.rt:32:5
 loop-less : tie.Need-loop-less Inv-loop μ-loop
 loop-less c = search needs
 
--- src/main.rt:32:5
 loop-again : tie.Need-loop-again Inv-loop μ-loop
 loop-again c = search needs
 
--- src/main.rt:28:1
 same-length-2 : tie.Need-same-length-2 Inv-loop μ-loop
 same-length-2 c = search needs
 
--- src/main.rt:28:1
 returns-2 : tie.Need-returns-2 Inv-loop μ-loop
 returns-2 c = counts _ _ (omega arith)
 
--- src/main.rt:28:1
 same-length-3 : tie.Need-same-length-3 Inv-loop μ-loop
 same-length-3 c = search needs
 
--- src/main.rt:28:1
 returns-3 : tie.Need-returns-3 Inv-loop μ-loop
 returns-3 c = counts _ _ (omega arith)
 
