@@ -68,20 +68,6 @@ fn read_front(fd: i32, buf: &mut [u8], n: usize) -> usize
     io::read_full(fd, &mut buf[..n])
 }
 
-// Are the bytes of b the first of a?
-fn begins(a: &[u8], b: &[u8]) -> bool
-    requires { ⌜ length (now b) ≤ length (now a) ⌝ }
-{
-    let mut i: usize = 0;
-    while i < b.len() {
-        if a[i] != b[i] {
-            return false;
-        }
-        i += 1;
-    }
-    true
-}
-
 // Is every byte from the place n on as it was before the call?
 fn untouched(out: &[u8], n: usize) -> bool {
     let mut i = n;
@@ -95,17 +81,14 @@ fn untouched(out: &[u8], n: usize) -> bool {
 }
 
 // Does the output hold the finished sheet, and behind it what it held before?
-fn finished_right(length: usize, finished: &[u8], out: &[u8]) -> bool {
-    if length != finished.len() {
+fn finished_right(n: usize, finished: &[u8], out: &[u8]) -> bool {
+    if out.len() < n {
         return false;
     }
-    if out.len() < length {
+    if !check::same(&out[..n], finished) {
         return false;
     }
-    if !begins(out, finished) {
-        return false;
-    }
-    untouched(out, length)
+    untouched(out, n)
 }
 
 // Is this the answer, and the output, of a case with this number and this finished sheet?

@@ -15,7 +15,9 @@ enum-known-answer : tie.Need-enum-known-answer
 enum-known-answer c = search needs
 
 slice-aggregate-write-all : tie.Need-slice-aggregate-write-all
-slice-aggregate-write-all c = sym (length-take-le _ (c .before .before .before .before .before .args .out .now) (subst (λ a. answer-length a ≤ length (c .before .before .before .before .before .args .out .now)) (c .before .before .answer .given .1) (c .before .before .before .before .before .pre)))
+slice-aggregate-write-all c =
+    let s = c .before .before .before .before .before in
+    sym (length-take-le _ (s .args .out .now) (subst (λ a. answer-length a ≤ length (s .args .out .now)) (c .before .before .answer .given .1) (s .pre)))
 
 write-all-requires : tie.Need-write-all-requires
 write-all-requires c κs = search needs
