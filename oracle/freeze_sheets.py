@@ -10,8 +10,9 @@ to lend, the number of the refusal (0: finished) and the finished sheet's length
 The program takes sheets and outputs of up to 20,000 bytes.
 
 The sheets of hand_made_sheets.py come first, in the order they stand in; then those of the generator. Of each sheet made by
-hand it is checked here that the oracle's answer holds the text it is to show, and of a 10 or 11 at which visit it comes. A
-generated sheet on which the Rust panics other than by the assertions of 10 and 11 is left out, and told.
+hand it is checked here that the oracle's answer holds the text it is to show, and of a 10 or 11 at which visit it comes; and
+that no finished sheet of the sample is longer than the one made to be the longest. A generated sheet on which the Rust
+panics other than by the assertions of 10 and 11 is left out, and told.
 The oracle has to be built first (README, 'Comparing with the Rust').
 """
 import collections
@@ -20,7 +21,7 @@ import subprocess
 import sys
 
 sys.dont_write_bytecode = True
-from hand_made_sheets import ALL
+from hand_made_sheets import ALL, LONGEST
 
 ROOT = pathlib.Path(__file__).resolve().parent.parent
 BIN = ROOT / "oracle" / "target" / "release"
@@ -100,6 +101,7 @@ def main():
     cases = list(hand_made())
     for batch in BATCHES:
         cases += generated(*batch)
+    assert max(len(answer) for _, _, answer in cases) == LONGEST
     data = b"".join(case_bytes(*case) for case in cases)
     assert len(data) < 1_500_000
     (REPLAY / "data" / "cases").write_bytes(data)
