@@ -1,10 +1,11 @@
 #!/usr/bin/env python3
 """Compares the definition itself, as the checker computes it, with the oracle.
 
-    oracle/compare_definition.py FAMILY SEED COUNT
+    oracle/compare_definition.py FAMILY SEED COUNT      generated sheets
+    oracle/compare_definition.py hand-made              those of hand_made_sheets.py, but for the few of 16 KB and for refusal 1
 
-Copies the crate plan to a temporary folder, adds a module of specs/ with a row for each generated sheet (the sheet, and the
-oracle's answer), and has it proved: a row is proved by computing. Prints the count of rows, or the first that is refused.
+Copies the crate plan to a temporary folder, adds a module of specs/ with a row for each sheet (the sheet, and the oracle's
+answer), and has it proved: a row is proved by computing. Prints the count of rows, or the first that is refused.
 The oracle has to be built first (README, 'Comparing with the Rust').
 """
 import pathlib
@@ -13,6 +14,9 @@ import shutil
 import subprocess
 import sys
 import tempfile
+
+sys.dont_write_bytecode = True
+from hand_made_sheets import ALL
 
 ROOT = pathlib.Path(__file__).resolve().parent.parent
 BIN = ROOT / "oracle" / "target" / "release"
@@ -35,12 +39,20 @@ def row(i, sheet, answer):
     return f"\nrow{i} : T (right ({text(sheet)}, {back}))\nunfolding computing bytes right written agree\nrow{i} = tt\n"
 
 
+def sheets_of(words):
+    if words == ["hand-made"]:
+        return [case.sheet.encode() for case in ALL.values() if case.lent >= 16384 and len(case.sheet) < 10000]
+    batch = subprocess.run([BIN / "gen", *words], stdout=subprocess.PIPE, check=True).stdout
+    return batch.split(MARK)[:-1]
+
+
 def main():
-    family, seed, count = sys.argv[1:4]
-    batch = subprocess.run([BIN / "gen", family, seed, count], stdout=subprocess.PIPE, check=True).stdout
+    words = sys.argv[1:]
+    sheets = sheets_of(words)
+    batch = b"".join(sheet + MARK for sheet in sheets)
     answers = subprocess.run([BIN / "oracle", "--batch"], input=batch, stdout=subprocess.PIPE, check=True).stdout
-    sheets, answers = batch.split(MARK)[:-1], answers.split(MARK)[:-1]
-    assert len(sheets) == len(answers) == int(count)
+    answers = answers.split(MARK)[:-1]
+    assert len(sheets) == len(answers)
     with tempfile.TemporaryDirectory() as folder:
         plan = pathlib.Path(folder) / "plan"
         shutil.copytree(ROOT / "crates" / "plan", plan, ignore=shutil.ignore_patterns("must-fail"))
@@ -55,7 +67,7 @@ def main():
             sys.stdout.write(sheets[int(bad[1])].decode("latin-1"))
         sys.exit(1)
     taken = sum(not a.startswith(b"R,") for a in answers)
-    print(f"{family} {seed}: {count} sheets agree, {taken} of them finished")
+    print(f"{' '.join(words)}: {len(sheets)} sheets agree, {taken} of them finished")
 
 
 main()
