@@ -27,11 +27,15 @@ unfoldable pub mark-of : List ℕ → Outcome Run → Mark
 mark-of paper (refused n) = Mark.Refused n
 mark-of paper (done whole) = verdict (same paper (edges-block whole))
 
+-- the run that finishes s, unless the output is too short for it
+abbrev pub marked-run : List ℕ → List ℕ → Outcome Run
+marked-run s output = refuse 1 when too-short output else run s
+
 -- on a sheet s, a paper and an output lent; the output is as the call leaves it
 unfoldable pub marked : List ℕ → List ℕ → List ℕ → Mark-called
 marked s paper output =
     record {
-      answer = mark-of paper (refuse 1 when too-short output else run s);
+      answer = mark-of paper (marked-run s output);
       output = finish s output .output;
     }
 
@@ -50,10 +54,6 @@ mark-line Mark.Wrong = 119 ∷ 114 ∷ 111 ∷ 110 ∷ 103 ∷ 10 ∷ []
 mark-line (Mark.Refused n) = 82 ∷ 44 ∷ (decimal n ++ (10 ∷ []))
 
 -- Laws, of every sheet s, paper and output -----------------------------------------------------------------------------------------
-
--- the run that finishes s, unless the output is too short for it
-abbrev pub marked-run : List ℕ → List ℕ → Outcome Run
-marked-run s output = refuse 1 when too-short output else run s
 
 pub record Marking-kept (s paper output : List ℕ) : Type 0 where
   -- on a sheet that is finished: right if the paper is its G lines, else wrong

@@ -1,6 +1,4 @@
 // Papers through mark, and its answer to each, one to a line, with the number of bytes that the output then holds.
-ghost use Prim.Native.Nat.{_≤_};
-ghost use lib.ListN.{length};
 use marking::answer::Mark;
 
 // The byte that stands everywhere in an output before the call; no finished sheet has it.
