@@ -1,0 +1,124 @@
+// Marks a paper against a sheet, two files named as arguments: `right`, `wrong`, or the refusal's number, on standard output.
+ghost use Prim.Native.Nat.{_≤_};
+ghost use lib.ListN.{length};
+ghost use Rattle.io.specs.Counts.{Counts};
+use libc::STDERR_FILENO;
+use libc::STDOUT_FILENO;
+use marking::answer::Mark;
+
+// How many bytes were read, or that a read failed.
+struct Input {
+    failed: bool,
+    length: usize,
+}
+
+// One read; it moves nothing at the end of the file.
+fn read_once(fd: i32, buf: &mut [u8]) -> Input
+    ensures { λ r. ⌜ r .length ≤ length (now (buf .entry)) ⌝ }
+{
+    let got = libc::read(fd, buf);
+    Input {
+        failed: got < 0,
+        length: io::count(got, buf),
+    }
+}
+
+// Reads until the file ends or the buffer is full, whichever comes first.
+fn read_input(fd: i32, buf: &mut [u8]) -> Input
+    ensures { λ r. ⌜ Counts (r .length) (now (buf .exit)) ⌝ }
+{
+    let mut done: usize = 0;
+    while done < buf.len() {
+        let got = read_once(fd, &mut buf[done..]);
+        if got.failed {
+            return Input {
+                failed: true,
+                length: 0,
+            };
+        }
+        if got.length == 0 {
+            break;
+        }
+        done += got.length;
+    }
+    Input {
+        failed: false,
+        length: done,
+    }
+}
+
+// Reads the file at a path; what cannot be read is told on standard error.
+fn read_path(path: &[u8], buf: &mut [u8]) -> Input
+    ensures { λ r. ⌜ Counts (r .length) (now (buf .exit)) ⌝ }
+{
+    let fd = os::open_read(path);
+    if fd < 0 {
+        os::fail(path);
+        return Input {
+            failed: true,
+            length: 0,
+        };
+    }
+    let input = read_input(fd, buf);
+    if input.failed {
+        os::fail(path);
+    }
+    libc::close(fd);
+    input
+}
+
+// Reads the file that argument i names.
+fn read_argument(i: usize, buf: &mut [u8]) -> Input
+    ensures { λ r. ⌜ Counts (r .length) (now (buf .exit)) ⌝ }
+{
+    let mut path = io::buffer();
+    let n = os::arg(i, &mut path);
+    read_path(&path[..n], buf)
+}
+
+fn put_refusal(number: u8) -> bool {
+    if !io::write_all(STDOUT_FILENO, b"R,") {
+        return false;
+    }
+    if !io::print_decimal(STDOUT_FILENO, number as u64) {
+        return false;
+    }
+    io::write_all(STDOUT_FILENO, b"\n")
+}
+
+// Did all of the answer go out?
+fn put_mark(answer: Mark) -> bool {
+    match answer {
+        Mark::Right => io::write_all(STDOUT_FILENO, b"right\n"),
+        Mark::Wrong => io::write_all(STDOUT_FILENO, b"wrong\n"),
+        Mark::Refused(number) => put_refusal(number),
+    }
+}
+
+fn mark_paper(sheet: &[u8], paper: &[u8]) {
+    let mut out: [u8; 16384] = [0; 16384];
+    if !put_mark(marking::mark(sheet, paper, &mut out)) {
+        os::fail(b"standard output");
+    }
+}
+
+// A sheet of more than 16,384 bytes is refused, and a paper of more is wrong: one byte more is all that has to be read.
+fn main() {
+    if os::arg_count() != 3 {
+        io::write_all(STDERR_FILENO, b"usage: mark SHEET PAPER\n");
+        return;
+    }
+    let mut sheet: [u8; 16385] = [0; 16385];
+    let s = read_argument(1, &mut sheet);
+    if s.failed {
+        return;
+    }
+    let mut paper: [u8; 16385] = [0; 16385];
+    let p = read_argument(2, &mut paper);
+    if p.failed {
+        return;
+    }
+    let m = s.length;
+    let n = p.length;
+    mark_paper(&sheet[..m], &paper[..n]);
+}

@@ -1,0 +1,65 @@
+-- Marking: a candidate's paper against the G lines of the finished sheet, and every byte of the output that is lent.
+use mathlib.Core.Path.{_≡_}
+use Prim.Native.Nat.{ℕ, _≤_}
+use mathlib.Core.Bool.{Bool, true, false}
+use mathlib.Core.List.{List, [], _∷_, _++_}
+use Rattle.plan.specs.Lists.{same}
+use Rattle.plan.specs.Sheet.{Outcome, refused, done, refuse_when_else_}
+use Rattle.plan.specs.Finished.{run, finish, too-short}
+use Rattle.plan.specs.Text.{edges-block, decimal}
+use Rattle.plan.specs.Visit.{Run}
+use Rattle.marking.specs.declared.answer.Mark.{Mark}
+
+-- what marking answers, and the bytes of the output at its exit
+pub record Mark-called : Type 0 where
+  pub answer : Mark
+  pub output : List ℕ
+
+abbrev pub mark-call : Mark → List ℕ → Mark-called
+mark-call r output = record { answer = r; output = output }
+
+unfoldable pub verdict : Bool → Mark
+verdict true = Mark.Right
+verdict false = Mark.Wrong
+
+-- right exactly if the paper's bytes are those of the G lines
+unfoldable pub mark-of : List ℕ → Outcome Run → Mark
+mark-of paper (refused n) = Mark.Refused n
+mark-of paper (done whole) = verdict (same paper (edges-block whole))
+
+-- the run that finishes s, unless the output is too short for it
+abbrev pub marked-run : List ℕ → List ℕ → Outcome Run
+marked-run s output = refuse 1 when too-short output else run s
+
+-- on a sheet s, a paper and an output lent; the output is as the call leaves it
+unfoldable pub marked : List ℕ → List ℕ → List ℕ → Mark-called
+marked s paper output =
+    record {
+      answer = mark-of paper (marked-run s output);
+      output = finish s output .output;
+    }
+
+-- What an answer says, by document 01 ----------------------------------------------------------------------------------------
+
+-- the refusal's number; 0 for none
+abbrev pub mark-number : Mark → ℕ
+mark-number Mark.Right = 0
+mark-number Mark.Wrong = 0
+mark-number (Mark.Refused n) = n
+
+-- the line that is printed: `right`, `wrong`, or `R,` and the number; and byte 10
+unfoldable pub mark-line : Mark → List ℕ
+mark-line Mark.Right = 114 ∷ 105 ∷ 103 ∷ 104 ∷ 116 ∷ 10 ∷ []
+mark-line Mark.Wrong = 119 ∷ 114 ∷ 111 ∷ 110 ∷ 103 ∷ 10 ∷ []
+mark-line (Mark.Refused n) = 82 ∷ 44 ∷ (decimal n ++ (10 ∷ []))
+
+-- Laws, of every sheet s, paper and output -----------------------------------------------------------------------------------------
+
+pub record Marking-kept (s paper output : List ℕ) : Type 0 where
+  -- on a sheet that is finished: right if the paper is its G lines, else wrong
+  pub right : (whole : Run) → marked-run s output ≡ done whole → paper ≡ edges-block whole → marked s paper output .answer ≡ Mark.Right
+  pub wrong : (whole : Run) → marked-run s output ≡ done whole → (paper ≡ edges-block whole → ⊥) → marked s paper output .answer ≡ Mark.Wrong
+  -- an empty paper is never right
+  pub empty-wrong : (whole : Run) → marked-run s output ≡ done whole → marked s [] output .answer ≡ Mark.Wrong
+  -- a refusal has one of eleven numbers
+  pub numbers : (n : ℕ) → marked s paper output .answer ≡ Mark.Refused n → (1 ≤ n) × (n ≤ 11)
