@@ -32,8 +32,9 @@ enum simplify_ordering_answer {
 
 /* Finishes the sheet. For 0, *finished is the length of the finished sheet, which stands at the front of `out`; the bytes
    behind it are as they were. For 1 to 11, *finished is 0 and every byte of `out` is as it was.
-   No pointer may be null, not even with a length of 0. `out` and *finished overlap nothing. It keeps no pointer and no
-   state, so any number of threads may call it at once. */
+   No pointer may be null, not even with a length of 0. `out` and *finished overlap neither each other nor the sheet, and
+   nobody else writes to any of the three before the call returns. It keeps no pointer and no state.
+   A chain of 128 expressions takes it between 352 and 384 KiB of stack. */
 uint8_t simplify_ordering_finish(const uint8_t *sheet, size_t sheet_length, uint8_t *out, size_t out_length,
                                  size_t *finished);
 

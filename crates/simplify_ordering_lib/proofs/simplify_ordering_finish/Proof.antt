@@ -1,3 +1,4 @@
+-- `simplify_ordering_finish` meets its contract: it tells of the answer what the definition says of its own.
 use mathlib.Core.Path.{_≡_, sym, ap, _∙_}
 use Prim.Native.Nat.{ℕ}
 use mathlib.Core.List.{List}
