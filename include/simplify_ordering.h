@@ -1,0 +1,45 @@
+/* The call: a sheet of bytes in, its finished sheet or the number of a refusal out. */
+#ifndef SIMPLIFY_ORDERING_H
+#define SIMPLIFY_ORDERING_H
+
+#include <stddef.h>
+#include <stdint.h>
+
+#ifdef __cplusplus
+extern "C" {
+#endif
+
+/* The longest sheet that is read, and the least output that has to be lent. */
+#define SIMPLIFY_ORDERING_LONGEST_SHEET 16384
+#define SIMPLIFY_ORDERING_LEAST_OUTPUT 16384
+
+/* What is answered: 0, or the number of the refusal. The first fault decides, in the order of the numbers; 3, 4 and 5 are
+   looked for line by line. */
+enum simplify_ordering_answer {
+    SIMPLIFY_ORDERING_FINISHED = 0,          /* the finished sheet stands at the front of the output */
+    SIMPLIFY_ORDERING_OUTPUT = 1,            /* the output lent is shorter than the least */
+    SIMPLIFY_ORDERING_LENGTH = 2,            /* the sheet is longer than the longest */
+    SIMPLIFY_ORDERING_FORM = 3,              /* not the form of a line, or an E line after a P line */
+    SIMPLIFY_ORDERING_TABLE = 4,             /* a kind, an option or a count outside its table */
+    SIMPLIFY_ORDERING_ROOM = 5,              /* more P lines or more expressions than there is room for */
+    SIMPLIFY_ORDERING_NO_STEP = 6,           /* no P line */
+    SIMPLIFY_ORDERING_REFERENCE = 7,         /* a child, an input or an expression that may not be named there */
+    SIMPLIFY_ORDERING_USE = 8,               /* a line named too often or by none, or two Cache lines with one id */
+    SIMPLIFY_ORDERING_STRUCT_FIELD = 9,      /* a StructField outside the evaluation of every StructEval */
+    SIMPLIFY_ORDERING_JOIN = 10,             /* the assertions on a Join's keys fail */
+    SIMPLIFY_ORDERING_PARTITIONED_SINK = 11, /* the assertions on a partitioned Sink's keys fail */
+};
+
+/* Finishes the sheet. For 0, *finished is the length of the finished sheet, which stands at the front of `out`; the bytes
+   behind it are as they were. For 1 to 11, *finished is 0 and every byte of `out` is as it was.
+   No pointer may be null, not even with a length of 0. `out` and *finished overlap neither each other nor the sheet, and
+   nobody else writes to any of the three before the call returns. It keeps no pointer and no state.
+   A chain of 128 expressions takes it between 352 and 384 KiB of stack. */
+uint8_t simplify_ordering_finish(const uint8_t *sheet, size_t sheet_length, uint8_t *out, size_t out_length,
+                                 size_t *finished);
+
+#ifdef __cplusplus
+}
+#endif
+
+#endif
