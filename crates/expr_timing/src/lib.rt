@@ -1,5 +1,10 @@
 // One list of one expression, called from Rust to be timed.
+ghost use mathlib.Core.Path.{_≡_};
+ghost use mathlib.Core.List.{[], _∷_};
 ghost use Prim.Native.Nat.{_<_};
+ghost use Rattle.plan.specs.Look.{simplify-projected-exprs};
+ghost use Rattle.plan.specs.Stored.{stored-exprs};
+ghost use Rattle.plan.specs.Visit.{expr-order-simplifier};
 ghost use Rattle.expr.proofs.Asked.{Read-exprs};
 use expr::look::Tally;
 use expr::projected::expr_order_simplifier;
@@ -17,6 +22,7 @@ pub extern "C" fn list_looks(
     allow_deordering_top: bool,
 ) -> u64
     requires { ⌜ Read-exprs (now recs) n × (root < n) ⌝ }
+    ensures { λ r. ⌜ r ≡ simplify-projected-exprs (root ∷ []) «allow_deordering_top» (expr-order-simplifier (stored-exprs (now (recs .entry)) n) 0) .1 .looks ⌝ }
 {
     size_2048(recs);
     let start = expr_order_simplifier(

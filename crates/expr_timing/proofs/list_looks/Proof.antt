@@ -1,10 +1,21 @@
+use denote.Ref.{now}
 use native.Mathlib.Omega.{arith}
-use mathlib.Core.Path.{refl}
-use Prim.Native.Nat.{ℕ, zero, suc, _<_}
+use mathlib.Core.Path.{_≡_, refl, ap, _∙_}
+use Prim.Native.Nat.{ℕ, zero, suc, _≤_, _<_}
+use mathlib.Core.Bool.{Bool}
 use mathlib.Core.List.{List, [], _∷_}
 use lib.ListN.{getD, take}
-use Rattle.expr.specs.State.{Falls}
+use Rattle.plan.specs.declared.orders.ObservableOrders.{ObservableOrders}
+use Rattle.plan.specs.Sheet.{Expr}
+use Rattle.plan.specs.Look.{simplify-projected-exprs}
+use Rattle.plan.specs.Look as plan
+use Rattle.plan.specs.Stored.{arena-of, stored-exprs}
+use Rattle.plan.specs.Visit.{expr-order-simplifier}
+use Rattle.expr.specs.declared.look.Eos.{Eos}
+use Rattle.expr.specs.Projected.{Started, ListGives}
+use Rattle.expr.specs.State.{eos-of, Falls}
 use Rattle.expr.proofs.Asked.{asks-at-start}
+use Rattle.expr.proofs.Starts.{arena-at-start}
 use borrow.Author.Needs.{needs}
 use Rattle.expr_timing.proofs.list_looks.Statement.{statement}
 use Rattle.expr_timing.proofs.list_looks.Tie as tie
@@ -16,6 +27,16 @@ one-below n root l h = record { child = child }
     child : (k : ℕ) → k < 1 → getD (take 1 (root ∷ l)) k 0 < n
     child zero b = h
     child (suc k) b = absurd (omega arith)
+
+-- from the stored records, the looks are the definition's
+looks-are : (recs : List ℕ) (n : ℕ) (line : List ℕ) (off : List Bool) → arena-of recs line off n ≡ stored-exprs recs n → (start : Eos)
+    → Started line off (record { visits = 0; looks = 0 }) start → (root : ℕ) (l : List ℕ) (allow : Bool) (r : Eos) → ListGives recs n start (root ∷ l) 1 allow r
+    → r .tally .looks ≡ simplify-projected-exprs (root ∷ []) allow (expr-order-simplifier (stored-exprs recs n) 0) .1 .looks
+unfolding eos-of
+looks-are recs n line off same start started root l allow r g =
+    ap (λ (p : ObservableOrders × plan.Eos). p .1 .looks) (g .is)
+    ∙ ap (λ (s : plan.Eos). simplify-projected-exprs (root ∷ []) allow s .1 .looks)
+    (started .is recs n ∙ ap (λ (es : List Expr). expr-order-simplifier es 0) same)
 
 size-2048-requires : tie.Need-size-2048-requires
 size-2048-requires c κs = search needs
@@ -36,7 +57,12 @@ simplify-projected-exprs-requires c κs =
     asks-at-start _ _ (p .0) (omega (arith, size, p .0 .few)) _ _ _ _ (c .before .before .own-lines .ensures) (c .before .none-off .ensures) (c .expr-order-simplifier .ensures) (omega arith) _ _ _ (omega arith) refl (one-below _ _ (0 ∷ 0 ∷ 0 ∷ 0 ∷ 0 ∷ 0 ∷ 0 ∷ []) (p .1))
 
 returns : tie.Need-returns
-returns c = search needs
+returns c =
+    let a = c .before .before .before .before .before .before .args in
+    let p = c .before .before .before .before .before .before .pre in
+    let same = arena-at-start (now (a .recs)) (a .n) (p .0 .few) _ _ (c .before .before .before .before .own-lines .ensures) (c .before .before .before .none-off .ensures) in
+    looks-are (now (a .recs)) (a .n) _ _ same (c .before .before .expr-order-simplifier .result) (c .before .before .expr-order-simplifier .ensures) (a .root)
+    (0 ∷ 0 ∷ 0 ∷ 0 ∷ 0 ∷ 0 ∷ 0 ∷ []) (a .allow-deordering-top) (c .before .simplify-projected-exprs .result) (c .before .simplify-projected-exprs .ensures)
 
 pub list-looks-spec : {M : Type 1} → statement M
 list-looks-spec =
