@@ -1,6 +1,6 @@
 -- What the code's list of projected expressions asks and gives, a law for each way through it.
 use mathlib.Core.Path.{_≡_, refl, sym, ap, _∙_, fun-ext}
-use Prim.Native.Nat.{ℕ, zero, suc, _<_, _≤_}
+use Prim.Native.Nat.{ℕ, _<_, _≤_}
 use native.Mathlib.Nat.{le-refl, lt-of-le-of-lt}
 use native.Mathlib.Omega.{arith}
 use mathlib.Core.Bool.{Bool, true, false, _&&_, _||_}

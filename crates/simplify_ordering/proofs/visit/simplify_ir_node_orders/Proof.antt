@@ -1,26 +1,16 @@
 use Rattle.simplify_ordering.proofs.VisitLaws.{tests-read, goes-is, goes-on, goes-away, here-is, edges-held, unlinkable, settle-asked}
 use Rattle.simplify_ordering.specs.Run.{run-of}
 use Rattle.simplify_ordering.specs.Held.{held-edges}
-use Rattle.plan.specs.Visit.{Around}
 use Rattle.plan.specs.Stored.{arena-of, stored-steps}
-use Rattle.plan.specs.Sheet.{step-at}
 use lib.Dec.{T}
 use mathlib.Core.List.{[]}
-use mathlib.Core.Path.{_≡_, sym, _∙_, ap, refl, subst}
+use mathlib.Core.Path.{sym, _∙_, ap, subst}
 use native.Mathlib.Omega.{arith}
 use denote.Ref.{now}
 use borrow.Author.Needs.{needs}
 use Rattle.simplify_ordering.proofs.visit.simplify_ir_node_orders.Statement.{statement}
 use Rattle.simplify_ordering.proofs.visit.simplify_ir_node_orders.Tie as tie
-use Rattle.simplify_ordering.proofs.visit.simplify_ir_node_orders.Reads as reads
-use Rattle.simplify_ordering.proofs.visit.simplify_ir_node_orders.Lts as lts
-use Rattle.simplify_ordering.proofs.around.around_step.Reads as around-step-reads
-use Rattle.simplify_ordering.proofs.steps.options_of.Reads as options-of-reads
-use Rattle.simplify_ordering.proofs.unlink.unlink_node.Reads as unlink-node-reads
-use Rattle.simplify_ordering.proofs.visit.goes.Reads as goes-reads
-use Rattle.tally.proofs.visited.Reads as visited-reads
 use Rattle.tally.specs.declared.Tally.{Tally}
-use Rattle.simplify_ordering.proofs.visit.settle.Reads as settle-reads
 
 -- src/visit.rt:161:9
 options-of-requires : tie.Need-options-of-requires
