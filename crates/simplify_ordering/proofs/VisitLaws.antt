@@ -19,7 +19,7 @@ use Rattle.plan.specs.Visit.{Run, Around, Observable, Looked, around, with-impl
 use Rattle.plan.specs.Visit as Visit
 use Rattle.plan.specs.Visit.{no-edge}
 use Rattle.plan.specs.StoredLaws.{length-table, table-at}
-use Rattle.expr.specs.declared.look.Tally.{Tally}
+use Rattle.tally.specs.declared.Tally.{Tally}
 use Rattle.simplify_ordering.specs.declared.around.Around as code
 use Rattle.simplify_ordering.specs.declared.rules.Options.{Options}
 use Rattle.simplify_ordering.specs.Held.{around-of, options-of, Unlinked, Unlinkable, Edges-held, held-edge, held-edges}
