@@ -6,15 +6,14 @@ use libc::STDIN_FILENO;
 use libc::STDOUT_FILENO;
 use plan::answer::Answer;
 use streams::read_input;
+use streams::write_front;
+use writing::lines::put_refusal;
 
-fn put_refusal(number: u8) -> bool {
-    if !io::write_all(STDOUT_FILENO, b"R,") {
-        return false;
-    }
-    if !io::print_decimal(STDOUT_FILENO, number as u64) {
-        return false;
-    }
-    io::write_all(STDOUT_FILENO, b"\n")
+// Did all of the refusal's line go out?
+fn print_refusal(number: u8) -> bool {
+    let mut line: [u8; 6] = [0; 6];
+    let n = put_refusal(&mut line, number);
+    write_front(STDOUT_FILENO, &line, n)
 }
 
 // Did all of the answer go out?
@@ -22,11 +21,8 @@ fn put_answer(answer: Answer, out: &[u8]) -> bool
     requires { ⌜ answer-length answer ≤ length (now out) ⌝ }
 {
     match answer {
-        Answer::Finished(f) => {
-            let n = f.length;
-            io::write_all(STDOUT_FILENO, &out[..n])
-        }
-        Answer::Refused(number) => put_refusal(number),
+        Answer::Finished(f) => write_front(STDOUT_FILENO, out, f.length),
+        Answer::Refused(number) => print_refusal(number),
     }
 }
 

@@ -3,8 +3,10 @@ ghost use Rattle.io.specs.Counts.{Counts};
 use libc::STDERR_FILENO;
 use libc::STDOUT_FILENO;
 use marking::answer::Mark;
+use marking::line::put_mark;
 use streams::Input;
 use streams::read_path;
+use streams::write_front;
 
 // Reads the file that argument i names.
 fn read_argument(i: usize, buf: &mut [u8]) -> Input
@@ -15,28 +17,16 @@ fn read_argument(i: usize, buf: &mut [u8]) -> Input
     read_path(&path[..n], buf)
 }
 
-fn put_refusal(number: u8) -> bool {
-    if !io::write_all(STDOUT_FILENO, b"R,") {
-        return false;
-    }
-    if !io::print_decimal(STDOUT_FILENO, number as u64) {
-        return false;
-    }
-    io::write_all(STDOUT_FILENO, b"\n")
-}
-
-// Did all of the answer go out?
-fn put_mark(answer: Mark) -> bool {
-    match answer {
-        Mark::Right => io::write_all(STDOUT_FILENO, b"right\n"),
-        Mark::Wrong => io::write_all(STDOUT_FILENO, b"wrong\n"),
-        Mark::Refused(number) => put_refusal(number),
-    }
+// Did all of the mark's line go out?
+fn print_mark(answer: Mark) -> bool {
+    let mut line: [u8; 6] = [0; 6];
+    let n = put_mark(&mut line, answer);
+    write_front(STDOUT_FILENO, &line, n)
 }
 
 fn mark_paper(sheet: &[u8], paper: &[u8]) {
     let mut out: [u8; 16384] = [0; 16384];
-    if !put_mark(marking::mark(sheet, paper, &mut out)) {
+    if !print_mark(marking::mark(sheet, paper, &mut out)) {
         os::fail(b"standard output");
     }
 }

@@ -1,4 +1,4 @@
-// What the programs read: a whole input, or as much of it as the buffer holds.
+// What the programs read and write: a whole input, or as much of it as the buffer holds; the front of a buffer.
 ghost use Prim.Native.Nat.{_≤_};
 ghost use lib.ListN.{length};
 ghost use Rattle.io.specs.Counts.{Counts};
@@ -62,4 +62,11 @@ pub fn read_path(path: &[u8], buf: &mut [u8]) -> Input
     }
     libc::close(fd);
     input
+}
+
+// Did the first n bytes all go out?
+pub fn write_front(fd: i32, buf: &[u8], n: usize) -> bool
+    requires { ⌜ n ≤ length (now buf) ⌝ }
+{
+    io::write_all(fd, &buf[..n])
 }
