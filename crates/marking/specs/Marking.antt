@@ -42,12 +42,6 @@ marked s paper output =
 
 -- What an answer says, by document 01 ----------------------------------------------------------------------------------------
 
--- the refusal's number; 0 for none
-abbrev pub mark-number : Mark → ℕ
-mark-number Mark.Right = 0
-mark-number Mark.Wrong = 0
-mark-number (Mark.Refused n) = n
-
 -- the line that is printed: `right`, `wrong`, or `R,` and the number; and byte 10
 unfoldable pub mark-line : Mark → List ℕ
 mark-line Mark.Right = 114 ∷ 105 ∷ 103 ∷ 104 ∷ 116 ∷ 10 ∷ []
