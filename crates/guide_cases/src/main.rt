@@ -1,7 +1,6 @@
 // Goes through the guide's examples, and compares each with what the calls answer. data/GUIDE.md is the guide itself.
 // A block of the guide stands between two lines that begin with three backquotes. The first of them may name it: `sheet`; `answer`,
 // what finish prints for the last sheet; `right` and `wrong`, papers to that sheet. All other blocks are passed over.
-ghost use mathlib.Core.Path.{_≡_};
 ghost use Prim.Native.Nat.{_≤_, _<_};
 ghost use lib.ListN.{length};
 ghost use Rattle.plan.specs.Finished.{answer-length};
