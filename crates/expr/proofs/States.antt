@@ -17,6 +17,7 @@ use Rattle.plan.specs.Sheet.{expr-at}
 use Rattle.plan.specs.Orders.{∅, _∪_, is-empty, add}
 use Rattle.plan.specs.Look.{one-look, with-arena, with-field, look-ended}
 use Rattle.expr.specs.declared.after.After.{After}
+use Rattle.expr.specs.declared.look.Eos.{Eos}
 use Rattle.expr.specs.declared.order_acc.Seen.{Seen}
 use Rattle.expr.specs.declared.record.ExprRecord.{ExprRecord}
 use Rattle.expr.specs.Acc.{Adds}
@@ -128,6 +129,17 @@ module _ (recs : List ℕ) (n : ℕ) (s : State) where
       → eos-of recs n (copied p c s) ≡ with-arena (set (eos-of recs n s .expr-arena) p (expr-at (eos-of recs n s .expr-arena) c)) (eos-of recs n s)
   unfolding eos-of
   eos-copied p c h k i j = rw (arena-copied recs n (s .line) (s .off) p h c k i j)
+
+-- into the fields of a StructEval, or not
+abbrev pub entering : Bool → Eos → Eos
+entering enters u = record { tally = u .tally; field = if enters then u .answer else u .field; observed = u .observed; answer = u .answer }
+
+module _ (u t : Eos) (test enters : Bool) (is : test ≡ enters) where
+  pub entered-taken : test ≡ true → t ≡ record { tally = u .tally; field = u .answer; observed = u .observed; answer = u .answer } → t ≡ entering enters u
+  entered-taken h e = rw (← is, h, e)
+
+  pub entered-left : test ≡ false → t ≡ u → t ≡ entering enters u
+  entered-left h e = rw (← is, h, e)
 
 -- The end of a look --------------------------------------------------------------------------------------------------------------
 

@@ -17,7 +17,6 @@ use crate::after::After;
 use crate::after::answer;
 use crate::before::Before;
 use crate::order_acc::Seen;
-use crate::order_acc::pick;
 use crate::record::ExprRecord;
 use crate::record::child_of;
 use crate::record::expr_of;
@@ -33,11 +32,11 @@ use tally::looked;
 // arena and the revisit_cache: `line` has the base record that each line holds now, and `off` whether its Implode was
 // switched off.
 pub struct Eos {
+    pub tally: Tally,
     // struct_field_ordering
     pub field: ObservableOrders,
     // internally_observed
     pub observed: ObservableOrders,
-    pub tally: Tally,
     // Of the last look.
     pub answer: ObservableOrders,
 }
@@ -99,16 +98,11 @@ fn pick_byte(b: bool, x: u8, y: u8) -> u8
     if b { x } else { y }
 }
 
-// The fields of a StructEval have the order of its first child.
-fn enter_struct(
-    kind: AExpr,
-    i: u8,
-    o: ObservableOrders,
-    field: ObservableOrders,
-) -> ObservableOrders
-    ensures { λ r. ⌜ r ≡ (if eqb i 0 && same-aexpr kind AExpr.StructEval then o else field) ⌝ }
+// Is the i-th child the first of a StructEval? The fields have its order.
+fn enters_struct(kind: AExpr, i: u8) -> bool
+    ensures { λ r. ⌜ r ≡ (eqb i 0 && same-aexpr kind AExpr.StructEval) ⌝ }
 {
-    pick((i == 0) & same(kind, AExpr::StructEval), o, field)
+    (i == 0) & same(kind, AExpr::StructEval)
 }
 
 // Is de-ordering allowed in the i-th look?
@@ -244,16 +238,27 @@ pub fn look_along(
     let c = child_of(e, b.turned, i);
     let mut t = look(recs, line, off, cache, n, s, c as usize, mode(b, i));
     let o = t.answer;
-    let next = seen.add(o, c, i);
     let kind = e.kind;
-    let field = t.field;
-    let within = enter_struct(kind, i, o, field);
-    t.field = within;
+    if enters_struct(kind, i) {
+        t.field = o;
+    }
     if i + 1 == e.count {
         return Walk {
             state: t,
-            seen: next,
+            seen: seen.add(o, c, i),
         };
     }
-    look_along(recs, line, off, cache, n, t, e, b, l, next, i + 1)
+    look_along(
+        recs,
+        line,
+        off,
+        cache,
+        n,
+        t,
+        e,
+        b,
+        l,
+        seen.add(o, c, i),
+        i + 1,
+    )
 }

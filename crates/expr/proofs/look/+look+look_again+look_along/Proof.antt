@@ -6,6 +6,9 @@ use lib.ListN.{getD}
 use Rattle.expr.specs.Tables.{after-of}
 use Rattle.expr.proofs.States.{kept-counted}
 use Rattle.expr.proofs.Ways.{line-128, line-room, line-formed, count-fits, e-readable, gives-hit, child-128, copy-falls, copy-asks, gives-copy, gives-leaf, along-asks, again-falls, again-asks, gives-again, gives-done, gives-twice}
+use mathlib.Core.Logic.{⊎-elim}
+use mathlib.Core.Path.{refl}
+use Rattle.expr.proofs.States.{entered-taken, entered-left}
 use Rattle.expr.proofs.Children.{child-falls, child-asks, few-seen, rest-asks, gives-more, gives-last}
 use Prim.Native.Nat.{ℕ, _+_, _*_, _-_, _<_}
 use borrow.Fn.Kinds.{In}
@@ -22,7 +25,7 @@ use Rattle.expr.proofs.look.+look+look_again+look_along.Lts-look_along 
 use Rattle.expr.proofs.after.After.of.Reads as after-After-of-reads
 use Rattle.expr.proofs.after.answer.Reads as answer-reads
 use Rattle.expr.proofs.before.Before.of.Reads as before-Before-of-reads
-use Rattle.expr.proofs.look.enter_struct.Reads as enter-struct-reads
+use Rattle.expr.proofs.look.enters_struct.Reads as enters-struct-reads
 use Rattle.expr.proofs.look.is_replaced.Reads as is-replaced-reads
 use Rattle.expr.proofs.look.look_ended.Reads as look-ended-reads
 use Rattle.expr.proofs.look.mode.Reads as mode-reads
@@ -115,10 +118,10 @@ look-along-claims t = (
   mode-reads.Learnt,
   look-below t,
   look.Post,
+  enters-struct-reads.Asked,
+  enters-struct-reads.Learnt,
   add-reads.Asked,
   add-reads.Learnt,
-  enter-struct-reads.Asked,
-  enter-struct-reads.Learnt,
   look-along-below t,
   look-along.Post,
 )
@@ -396,17 +399,24 @@ module _ (t : ℕ) where
 
   look-along-add-requires : look-along-lts.Need-add-requires (look-along-claims t) (look-along-at t) look-along.Post
   look-along-add-requires c κs =
-      let asks = c .before .before .before .before .before .before .before .pre .1 in
-      let slot = c .before .before .before .before .before .before .child-of .ensures in
-      let mode = c .before .before .mode .ensures in
+      let asks = c .before .before .before .before .before .before .before .before .before .before .before .pre .1 in
+      let slot = c .before .before .before .before .before .before .before .before .before .before .child-of .ensures in
+      let mode = c .before .before .before .before .before .before .mode .ensures in
       few-seen _ _ _ _ _ _ _ _ asks _ _ slot mode
 
-  look-along-enter-struct-requires : look-along-lts.Need-enter-struct-requires (look-along-claims t) (look-along-at t) look-along.Post
-  look-along-enter-struct-requires c κs = tt
+  look-along-add-requires-2 : look-along-lts.Need-add-requires-2 (look-along-claims t) (look-along-at t) look-along.Post
+  look-along-add-requires-2 c κs =
+      let asks = c .before .before .before .before .before .before .before .before .before .before .before .before .before .before .pre .1 in
+      let slot = c .before .before .before .before .before .before .before .before .before .before .before .before .before .child-of .ensures in
+      let mode = c .before .before .before .before .before .before .before .before .before .mode .ensures in
+      few-seen _ _ _ _ _ _ _ _ asks _ _ slot mode
 
-  look-along-add-if1 : look-along-lts.Need-add-if1 (look-along-claims t) (look-along-at t) look-along.Post
-  look-along-add-if1 c =
-      let asks = c .before .before .before .before .before .before .before .before .before .before .pre .1 in
+  look-along-enters-struct-requires : look-along-lts.Need-enters-struct-requires (look-along-claims t) (look-along-at t) look-along.Post
+  look-along-enters-struct-requires c κs = tt
+
+  look-along-add-if2 : look-along-lts.Need-add-if2 (look-along-claims t) (look-along-at t) look-along.Post
+  look-along-add-if2 c =
+      let asks = c .before .before .before .before .before .before .before .before .before .pre .1 in
       search (needs, asks .more, asks .shaped .few)
 
   look-along-returns : look-along-lts.Need-returns (look-along-claims t) (look-along-at t) look-along.Post
@@ -415,10 +425,11 @@ module _ (t : ℕ) where
       let slot = c .before .before .before .before .before .before .before .before .before .before .before .child-of .ensures in
       let mode = c .before .before .before .before .before .before .before .mode .ensures in
       let looked = c .before .before .before .before .before .before .look .ensures in
-      let added = c .before .before .before .before .add .ensures in
-      let entered = c .before .before .enter-struct .ensures in
-      let last = c .if1 .taken in
-      gives-last _ _ _ _ _ _ _ _ asks _ _ slot mode _ looked _ added _ entered last
+      let added = c .add .ensures in
+      let test = c .before .before .before .before .enters-struct .ensures in
+      let entered = ⊎-elim (λ w. entered-taken _ _ _ _ test (w .0 .taken) (w .1)) (λ w. entered-left _ _ _ _ test (w .0 .left) (w .1)) (c .before .before .before .if1 .came) in
+      let last = c .before .if2 .taken in
+      rw entered (gives-last _ _ _ _ _ _ _ _ asks _ _ slot mode _ looked _ added _ refl last)
 
   look-along-add-look-along : look-along-lts.Need-add-look-along (look-along-claims t) (look-along-at t) look-along.Post
   look-along-add-look-along c =
@@ -432,10 +443,11 @@ module _ (t : ℕ) where
       let slot = c .before .before .before .before .before .before .before .before .before .before .before .before .before .before .child-of .ensures in
       let mode = c .before .before .before .before .before .before .before .before .before .before .mode .ensures in
       let looked = c .before .before .before .before .before .before .before .before .before .look .ensures in
-      let added = c .before .before .before .before .before .before .before .add .ensures in
-      let entered = c .before .before .before .before .before .enter-struct .ensures in
-      let rest = c .before .before .before .if1 .left in
-      (omega (arith, falls, asks .more), rest-asks _ _ _ _ _ _ _ _ asks _ _ slot mode _ looked _ added _ entered (omega (arith, asks .more, rest)))
+      let added = c .add2 .ensures in
+      let test = c .before .before .before .before .before .before .before .enters-struct .ensures in
+      let entered = ⊎-elim (λ w. entered-taken _ _ _ _ test (w .0 .taken) (w .1)) (λ w. entered-left _ _ _ _ test (w .0 .left) (w .1)) (c .before .before .before .before .before .before .if1 .came) in
+      let rest = c .before .before .before .before .if2 .left in
+      (omega (arith, falls, asks .more), rw entered (rest-asks _ _ _ _ _ _ _ _ asks _ _ slot mode _ looked _ added _ refl (omega (arith, asks .more, rest))))
 
   look-along-returns-2 : look-along-lts.Need-returns-2 (look-along-claims t) (look-along-at t) look-along.Post
   look-along-returns-2 c =
@@ -443,10 +455,11 @@ module _ (t : ℕ) where
       let slot = c .before .before .before .before .before .before .before .before .before .before .before .before .before .before .before .child-of .ensures in
       let mode = c .before .before .before .before .before .before .before .before .before .before .before .mode .ensures in
       let looked = c .before .before .before .before .before .before .before .before .before .before .look .ensures in
-      let added = c .before .before .before .before .before .before .before .before .add .ensures in
-      let entered = c .before .before .before .before .before .before .enter-struct .ensures in
-      let rest = c .before .before .before .before .if1 .left in
-      gives-more _ _ _ _ _ _ _ _ asks _ _ slot mode _ looked _ added _ entered (omega (arith, asks .more, rest)) _ (c .look-along .ensures)
+      let added = c .before .add2 .ensures in
+      let test = c .before .before .before .before .before .before .before .before .enters-struct .ensures in
+      let entered = ⊎-elim (λ w. entered-taken _ _ _ _ test (w .0 .taken) (w .1)) (λ w. entered-left _ _ _ _ test (w .0 .left) (w .1)) (c .before .before .before .before .before .before .before .if1 .came) in
+      let rest = c .before .before .before .before .before .if2 .left in
+      gives-more _ _ _ _ _ _ _ _ asks _ _ slot mode _ looked _ added _ refl (omega (arith, asks .more, rest)) _ (rw entered at (c .look-along .ensures))
 
 pub +look+look-again+look-along-spec : {M : Type 1} → statement M
 +look+look-again+look-along-spec = close μ-look μ-look-again μ-look-along (λ t. look-lts.spec (look-claims t)
@@ -496,10 +509,11 @@ pub +look+look-again+look-along-spec : {M : Type 1} → statement M
     (look-along-cast-look t)
     (look-along-mode-requires t)
     (look-along-look-requires t)
+    (look-along-enters-struct-requires t)
+    (look-along-add-if2 t)
     (look-along-add-requires t)
-    (look-along-enter-struct-requires t)
-    (look-along-add-if1 t)
     (look-along-returns t)
+    (look-along-add-requires-2 t)
     (look-along-add-look-along t)
     (look-along-look-along-requires t)
     (look-along-returns-2 t)
