@@ -28,7 +28,7 @@ use Rattle.expr.specs.Start.{Own-lines, None-off}
 use Rattle.expr.proofs.Asked.{based-of-sheet}
 use Rattle.expr.proofs.Starts.{all-same, arena-at-start}
 use Rattle.simplify_ordering.specs.Arena.{Arena-held}
-use Rattle.simplify_ordering.specs.Held.{producer-of, held-edge, held-edges, Steps-held}
+use Rattle.node_rules.specs.Held.{producer-of, held-edge, held-edges, Steps-held}
 use Rattle.simplify_ordering.specs.Run.{run-of}
 use Rattle.simplify_ordering.specs.Walks.{sheet-of, Fetch-asks, Orderings-are, Orderings-held}
 use Rattle.simplify_ordering.specs.declared.walks.Fetched.{Fetched}

@@ -7,7 +7,7 @@ ghost use Rattle.plan.specs.Stored.{stored-steps};
 ghost use Rattle.plan.specs.Walks.{simplify-and-fetch-orderings};
 ghost use Rattle.reading.specs.Held.{sheet};
 ghost use Rattle.simplify_ordering.specs.Arena.{Arena-held};
-ghost use Rattle.simplify_ordering.specs.Held.{Steps-held};
+ghost use Rattle.node_rules.specs.Held.{Steps-held};
 ghost use Rattle.simplify_ordering.specs.Run.{run-of};
 ghost use Rattle.engine.specs.Call.{call, Plan-stored, Graph-made};
 ghost use Rattle.engine.specs.Lines.{Run-wrote};

@@ -23,9 +23,9 @@ use Rattle.expr.specs.Contract.{looked-of}
 use Rattle.expr.specs.Projected.{Started, ListAsks, ListGives}
 use Rattle.expr.specs.State.{eos-of, Falls, Formed}
 use Rattle.simplify_ordering.specs.declared.looks.Looked.{Looked}
-use Rattle.simplify_ordering.specs.declared.steps.Entries.{Entries}
+use Rattle.node_rules.specs.declared.steps.Entries.{Entries}
 use Rattle.simplify_ordering.specs.Arena.{Arena-held}
-use Rattle.simplify_ordering.specs.Held.{step-of, options-of, observable-of, Steps-held, Is-list}
+use Rattle.node_rules.specs.Held.{step-of, options-of, observable-of, Steps-held, Is-list}
 use Rattle.simplify_ordering.specs.Looks.{first, second, Lists-ask, Lists-give, Listed, Looks-give}
 use Rattle.simplify_ordering.proofs.ImplodeLaws.{length-arena}
 

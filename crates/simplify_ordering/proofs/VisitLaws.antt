@@ -20,13 +20,13 @@ use Rattle.plan.specs.Visit as Visit
 use Rattle.plan.specs.Visit.{no-edge}
 use Rattle.plan.specs.StoredLaws.{length-table, table-at}
 use Rattle.expr.specs.declared.look.Tally.{Tally}
-use Rattle.simplify_ordering.specs.declared.around.Around as code
-use Rattle.simplify_ordering.specs.declared.rules.Options.{Options}
-use Rattle.simplify_ordering.specs.Held.{around-of, options-of, Unlinked, Unlinkable, Edges-held, held-edge, held-edges}
+use Rattle.node_rules.specs.declared.around.Around as code
+use Rattle.node_rules.specs.declared.rules.Options.{Options}
+use Rattle.node_rules.specs.Held.{around-of, options-of, Unlinked, Unlinkable, Edges-held, held-edge, held-edges}
 use Rattle.simplify_ordering.specs.Looks.{Listed}
 use Rattle.simplify_ordering.specs.Run.{run-of, Run-held, refusal-number, Ruled-by, Settle-asks}
-use Rattle.simplify_ordering.proofs.StepLaws.{length-steps, its-n1}
-use Rattle.simplify_ordering.proofs.UnlinkLaws.{first-input}
+use Rattle.node_rules.proofs.StepLaws.{length-steps, its-n1}
+use Rattle.node_rules.proofs.UnlinkLaws.{first-input}
 use Rattle.claims.proofs.Stays.{goes-sort}
 use Rattle.claims.proofs.Counts.{true-of}
 use Rattle.simplify_ordering.proofs.ImplodesLaws.{longer-start}

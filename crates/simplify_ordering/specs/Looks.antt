@@ -12,9 +12,9 @@ use Rattle.plan.specs.Visit.{expr-order-simplifier}
 use Rattle.plan.specs.Visit as Visit
 use Rattle.expr.specs.declared.look.Tally.{Tally}
 use Rattle.simplify_ordering.specs.declared.looks.Looked.{Looked}
-use Rattle.simplify_ordering.specs.declared.steps.Entries.{Entries}
+use Rattle.node_rules.specs.declared.steps.Entries.{Entries}
 use Rattle.simplify_ordering.specs.Arena.{Arena-held}
-use Rattle.simplify_ordering.specs.Held.{observable-of, Steps-held, Is-list}
+use Rattle.node_rules.specs.Held.{observable-of, Steps-held, Is-list}
 
 -- The two lists xs and ys, from an arena and a tally -----------------------------------------------------------------------------------
 

@@ -15,7 +15,7 @@ use Rattle.expr.specs.declared.look.Tally.{Tally}
 use Rattle.simplify_ordering.specs.declared.visit.Visit.{Visit}
 use Rattle.simplify_ordering.specs.declared.visit.Visited.{Visited}
 use Rattle.simplify_ordering.specs.Arena.{Arena-held}
-use Rattle.simplify_ordering.specs.Held.{held-edges, Steps-held}
+use Rattle.node_rules.specs.Held.{held-edges, Steps-held}
 use Rattle.simplify_ordering.specs.Looks.{Listed}
 
 -- recs, line, off: the arena's first m lines. steps: n of them. consumer, slot, producer, unordered: so many edges. The places gone

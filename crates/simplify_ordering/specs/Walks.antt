@@ -15,7 +15,7 @@ use Rattle.expr.specs.declared.look.Tally.{Tally}
 use Rattle.simplify_ordering.specs.declared.walks.Fetched.{Fetched}
 use Rattle.simplify_ordering.specs.declared.walks.Orderings.{Orderings}
 use Rattle.simplify_ordering.specs.declared.walks.Walked.{Walked}
-use Rattle.simplify_ordering.specs.Held.{held-edges}
+use Rattle.node_rules.specs.Held.{held-edges}
 use Rattle.simplify_ordering.specs.Run.{run-of, Run-held}
 
 -- One place ----------------------------------------------------------------------------------------------------------------------------

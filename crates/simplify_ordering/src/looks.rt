@@ -7,19 +7,19 @@ ghost use Rattle.plan.specs.Sheet.{step-at};
 ghost use Rattle.plan.specs.Stored.{arena-of, stored-steps};
 ghost use Rattle.plan.specs.Visit.{with-implodes, with-aggs, looks-of};
 ghost use Rattle.simplify_ordering.specs.Arena.{Arena-held};
-ghost use Rattle.simplify_ordering.specs.Held.{around-of, options-of, Steps-held};
+ghost use Rattle.node_rules.specs.Held.{around-of, options-of, Steps-held};
 ghost use Rattle.simplify_ordering.specs.Looks.{Lists-ask, Lists-give, Listed, Looks-give};
-use crate::around::Around;
 use crate::implode::append_implodes;
-use crate::rules::Observable;
-use crate::rules::Options;
-use crate::rules::allow_deordering_top;
-use crate::steps::Entries;
-use crate::steps::aggs_of;
-use crate::steps::exprs_of;
 use expr::look::Tally;
 use expr::projected::expr_order_simplifier;
 use expr::projected::simplify_projected_exprs;
+use node_rules::around::Around;
+use node_rules::rules::Observable;
+use node_rules::rules::Options;
+use node_rules::rules::allow_deordering_top;
+use node_rules::steps::Entries;
+use node_rules::steps::aggs_of;
+use node_rules::steps::exprs_of;
 use plan::ir::IR;
 
 // What was observed, the tally afterwards, and how many records the arena has.

@@ -11,20 +11,20 @@ ghost use Rattle.plan.specs.Sheet.{step-at};
 ghost use Rattle.plan.specs.Stored.{stored-steps};
 ghost use Rattle.plan.specs.Visit.{around, settle, simplify-ir-node-orders};
 ghost use Rattle.claims.specs.Visitable.{Visitable};
-ghost use Rattle.simplify_ordering.specs.Held.{held-edges, around-of, observable-of, options-of, Steps-held};
+ghost use Rattle.node_rules.specs.Held.{held-edges, around-of, observable-of, options-of, Steps-held};
 ghost use Rattle.simplify_ordering.specs.Run.{run-of, Run-held, refusal-number, Ruled-by, visited-of, Settle-asks};
-use crate::around::Around;
-use crate::around::around_step;
 use crate::looks::looks_of;
-use crate::loosen::loosen_edges;
-use crate::rules::Observable;
-use crate::rules::Options;
-use crate::rules::refusal_of;
-use crate::rules::rule_of;
-use crate::steps::options_of;
-use crate::store::store_options;
-use crate::unlink::unlink_node;
 use expr::look::Tally;
+use node_rules::around::Around;
+use node_rules::around::around_step;
+use node_rules::loosen::loosen_edges;
+use node_rules::rules::Observable;
+use node_rules::rules::Options;
+use node_rules::rules::refusal_of;
+use node_rules::rules::rule_of;
+use node_rules::steps::options_of;
+use node_rules::store::store_options;
+use node_rules::unlink::unlink_node;
 
 // What comes of a visit: the step was settled, or it was a sort that is removed, or the sheet is refused by 10 or 11.
 pub enum Visited {

@@ -1,6 +1,6 @@
 use Rattle.simplify_ordering.proofs.VisitLaws.{tests-read, goes-is, goes-on, goes-away, here-is, edges-held, unlinkable, settle-asked}
 use Rattle.simplify_ordering.specs.Run.{run-of}
-use Rattle.simplify_ordering.specs.Held.{held-edges}
+use Rattle.node_rules.specs.Held.{held-edges}
 use Rattle.plan.specs.Visit.{Around}
 use Rattle.plan.specs.Stored.{arena-of, stored-steps}
 use Rattle.plan.specs.Sheet.{step-at}
@@ -14,9 +14,9 @@ use Rattle.simplify_ordering.proofs.visit.simplify_ir_node_orders.State
 use Rattle.simplify_ordering.proofs.visit.simplify_ir_node_orders.Tie as tie
 use Rattle.simplify_ordering.proofs.visit.simplify_ir_node_orders.Reads as reads
 use Rattle.simplify_ordering.proofs.visit.simplify_ir_node_orders.Lts as lts
-use Rattle.simplify_ordering.proofs.around.around_step.Reads as around-step-reads
-use Rattle.simplify_ordering.proofs.steps.options_of.Reads as options-of-reads
-use Rattle.simplify_ordering.proofs.unlink.unlink_node.Reads as unlink-node-reads
+use Rattle.node_rules.proofs.around.around_step.Reads as around-step-reads
+use Rattle.node_rules.proofs.steps.options_of.Reads as options-of-reads
+use Rattle.node_rules.proofs.unlink.unlink_node.Reads as unlink-node-reads
 use Rattle.simplify_ordering.proofs.visit.goes.Reads as goes-reads
 use Rattle.simplify_ordering.proofs.visit.one_visit.Reads as one-visit-reads
 use Rattle.simplify_ordering.proofs.visit.settle.Reads as settle-reads
