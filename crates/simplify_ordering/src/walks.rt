@@ -6,7 +6,7 @@ ghost use lib.ListN.{length, take, drop};
 ghost use Rattle.claims.specs.Visitable.{Visitable};
 ghost use Rattle.plan.specs.Walks.{simplify-and-fetch-orderings};
 ghost use Rattle.simplify_ordering.specs.Run.{run-of, Run-held};
-ghost use Rattle.simplify_ordering.specs.Walks.{Placed, Walk-asks, Walk-gives, sheet-of, Fetch-asks, Orderings-are, Orderings-held};
+ghost use Rattle.simplify_ordering.specs.Walks.{Placed, Walk-asks, Walk-gives, sheet-of, Fetch-asks, Down-gives, Answers, Orderings-are, Orderings-held};
 use crate::visit::Visited;
 use crate::visit::simplify_ir_node_orders;
 use expr::look::Tally;
@@ -161,6 +161,59 @@ fn size_288(a: &[u8; 288])
     let t = &a[..];
 }
 
+// The downward walk: along the visiting list, with nothing counted yet.
+fn walk_down(
+    recs: &mut [u8; 2048],
+    line: &mut [u8; 128],
+    off: &mut [bool; 128],
+    exprs: usize,
+    steps: &mut [u8; 1024],
+    n_steps: usize,
+    consumer: &[u8; 256],
+    slot: &[u8; 256],
+    producer: &mut [u8; 256],
+    unordered: &mut [bool; 256],
+    edges: usize,
+    list: &[u8; 288],
+    places: usize,
+    back: &mut [u8; 288],
+) -> Walked
+    requires { ⌜ Fetch-asks (now recs) (now line) (now off) exprs (now steps) «n_steps» (now consumer) (now slot) (now producer) (now unordered) edges (now list) places ⌝ }
+    requires { ⌜ length (now back) ≡ 288 ⌝ }
+    ensures { λ r. ⌜ Down-gives (sheet-of (now (recs .entry)) (now (line .entry)) (now (off .entry)) exprs (now (steps .entry)) «n_steps») (λ b d. run-of (now (recs .exit)) (now (line .exit)) (now (off .exit)) (r .exprs) (now (steps .exit)) «n_steps» (now (consumer .entry)) (now (slot .entry)) (now (producer .exit)) (now (unordered .exit)) edges b d (r .tally)) r (drop (r .at) (now (back .exit))) ⌝ }
+    ensures { λ r. ⌜ Run-held (now (recs .exit)) (now (line .exit)) (now (off .exit)) (r .exprs) (now (steps .exit)) «n_steps» (now (producer .exit)) (now (unordered .exit)) edges ⌝ }
+    ensures { λ r. ⌜ (length (now (back .exit)) ≡ 288) × (r .at ≤ 288) × (r .removed ≤ 288) ⌝ }
+{
+    let start = Walked {
+        refused: 0,
+        at: 288,
+        removed: 0,
+        exprs: exprs,
+        tally: Tally {
+            visits: 0,
+            looks: 0,
+        },
+    };
+    size_288(list);
+    walk(
+        recs,
+        line,
+        off,
+        steps,
+        n_steps,
+        consumer,
+        slot,
+        producer,
+        unordered,
+        edges,
+        list,
+        0,
+        places,
+        back,
+        start,
+    )
+}
+
 // The upward walk: back along the places that the downward walk stored, from down.at on.
 fn walk_back(
     recs: &mut [u8; 2048],
@@ -210,6 +263,22 @@ fn walk_back(
     )
 }
 
+// The answer, from the end of the upward walk.
+fn orderings_of(up: Walked) -> Orderings
+    ensures { λ r. ⌜ Answers up r ⌝ }
+{
+    if up.refused != 0 {
+        return Orderings::Refused(up.refused);
+    }
+    let tally = up.tally;
+    let fetched = Fetched {
+        exprs: up.exprs,
+        removed: up.removed,
+        tally: tally,
+    };
+    Orderings::Fetched(fetched)
+}
+
 // Along the visiting list, then back over it, but for the sorts removed on the way down.
 pub fn simplify_and_fetch_orderings(
     recs: &mut [u8; 2048],
@@ -231,21 +300,11 @@ pub fn simplify_and_fetch_orderings(
     ensures { λ r. ⌜ Orderings-held (λ m. Run-held (now (recs .exit)) (now (line .exit)) (now (off .exit)) m (now (steps .exit)) «n_steps» (now (producer .exit)) (now (unordered .exit)) edges) r ⌝ }
 {
     let mut back: [u8; 288] = [0; 288];
-    let start = Walked {
-        refused: 0,
-        at: 288,
-        removed: 0,
-        exprs: exprs,
-        tally: Tally {
-            visits: 0,
-            looks: 0,
-        },
-    };
-    size_288(list);
-    let down = walk(
+    let down = walk_down(
         recs,
         line,
         off,
+        exprs,
         steps,
         n_steps,
         consumer,
@@ -254,10 +313,8 @@ pub fn simplify_and_fetch_orderings(
         unordered,
         edges,
         list,
-        0,
         places,
         &mut back,
-        start,
     );
     if down.refused != 0 {
         return Orderings::Refused(down.refused);
@@ -276,14 +333,5 @@ pub fn simplify_and_fetch_orderings(
         &back,
         down,
     );
-    if up.refused != 0 {
-        return Orderings::Refused(up.refused);
-    }
-    let tally = up.tally;
-    let fetched = Fetched {
-        exprs: up.exprs,
-        removed: up.removed,
-        tally: tally,
-    };
-    Orderings::Fetched(fetched)
+    orderings_of(up)
 }
