@@ -7,10 +7,10 @@ use lib.ListN.{length, getD, take, drop, length-drop}
 use lib.Seq.{drop-cons, drop-drop, take-append-le, length-take-le, getD-take, getD-drop}
 use Rattle.plan.specs.Kinds.{ir}
 use Rattle.plan.specs.Sheet.{Step, no-step, step-at, step-of}
-use Rattle.plan.specs.Stored.{stored-step, stored-steps}
-use Rattle.plan.specs.StoredLaws.{length-table, table-at}
+use Rattle.plan.specs.Stored.{stored-step, stored-steps, Steps-held}
+use Rattle.plan.specs.StoredLaws.{table-at}
 use Rattle.node_rules.specs.declared.steps.Entries.{Entries}
-use Rattle.node_rules.specs.Held.{Steps-held, Is-list}
+use Rattle.node_rules.specs.Held.{Is-list}
 
 -- Eight bytes ----------------------------------------------------------------------------------------------------------------------
 
@@ -33,10 +33,6 @@ module _ (l : List ℕ) (b : ℕ) (room : b + 8 ≤ length l) where
 
   pub eight-taken : (count : ℕ) → count ≤ 8 → take count eight ≡ take count (drop b l)
   eight-taken count h = rw begins (sym (take-append-le count eight (drop (b + 8) l) h))
-
-pub length-steps : (bytes : List ℕ) (n : ℕ) → length (stored-steps bytes n) ≡ n
-unfolding stored-steps
-length-steps bytes n = length-table (stored-step bytes) 0 n
 
 -- A step's numbers -----------------------------------------------------------------------------------------------------------------
 

@@ -8,33 +8,11 @@ use Rattle.plan.specs.declared.ir.IR.{IR}
 use Rattle.plan.specs.Kinds.{ir, ir-number}
 use Rattle.plan.specs.KindNumbers.{ir-back}
 use Rattle.plan.specs.Sheet.{Step, step-at}
-use Rattle.plan.specs.Stored.{stored-steps}
+use Rattle.plan.specs.Stored.{stored-steps, Steps-held}
 use Rattle.plan.specs.StoredChanges.{formed-still, input-stored, agg-stored, options-stored, formed-options}
 use Rattle.plan.specs.Visit.{with-input, with-aggs}
 use Rattle.node_rules.specs.declared.rules.Ruled.{Ruled}
-use Rattle.node_rules.specs.Held.{ruled-step, Steps-held}
-
--- a kind's number is within the table
-pub ir-small : (k : IR) → ir-number k < 19
-ir-small IR.Scan = omega arith
-ir-small IR.UnoptimizedDispatch = omega arith
-ir-small IR.Sink = omega arith
-ir-small IR.Select = omega arith
-ir-small IR.HStack = omega arith
-ir-small IR.Sort = omega arith
-ir-small IR.Filter = omega arith
-ir-small IR.GroupBy = omega arith
-ir-small IR.Distinct = omega arith
-ir-small IR.Join = omega arith
-ir-small IR.Gather = omega arith
-ir-small IR.Union = omega arith
-ir-small IR.MergeSorted = omega arith
-ir-small IR.MapFunction = omega arith
-ir-small IR.HConcat = omega arith
-ir-small IR.Slice = omega arith
-ir-small IR.ExtContext = omega arith
-ir-small IR.SimpleProjection = omega arith
-ir-small IR.Cache = omega arith
+use Rattle.node_rules.specs.Held.{ruled-step}
 
 module _ (bytes : List ℕ) (n i : ℕ) (held : Steps-held bytes n) (here : i < n) where
   room : n * 32 ≤ length bytes

@@ -9,7 +9,7 @@ use lib.ListN.{length, getD, set, take, replicate}
 use Rattle.plan.specs.Lists.{if_then_else_}
 use Rattle.plan.specs.Sheet.{Step, step-at}
 use Rattle.plan.specs.Graph.{Edge}
-use Rattle.plan.specs.Stored.{table, Step-formed}
+use Rattle.plan.specs.Stored.{table}
 use Rattle.plan.specs.Visit.{Loosened}
 use Rattle.plan.specs.Visit as Visit
 use Rattle.node_rules.specs.declared.around.Around.{Around}
@@ -73,12 +73,6 @@ abbrev pub mark : Bool → Bool → ℕ → Bool → Bool → Bool → Bool → 
 mark u into k out-of in₀ in₁ out = u || (into && (if eqb k 0 then in₀ else in₁)) || (out-of && out)
 
 -- The steps -----------------------------------------------------------------------------------------------------------------------
-
--- the bytes hold n steps
-pub record Steps-held (bytes : List ℕ) (n : ℕ) : Type 0 where
-  pub few : n ≤ 32
-  pub size : length bytes ≡ 1024
-  pub formed : (i : ℕ) → i < n → Step-formed bytes i
 
 -- a step's n2 or n3 list, out of the bytes: the first `count` of the nodes
 pub record Is-list (xs : List ℕ) (e : Entries) : Type 0 where

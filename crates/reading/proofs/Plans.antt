@@ -9,9 +9,9 @@ use borrow.Author.Tests.{lt-ltb, le-ltb}
 use Rattle.plan.specs.Lists.{all?, numbered}
 use Rattle.plan.specs.Sheet.{Sheet, Outcome, refused, done, _then_, refuse_when_else_, read, read-lines, parts, no-lines, no-plan}
 use Rattle.plan.specs.Faults.{checked, references-right, uses-right, fields-right, children-earlier}
-use Rattle.plan.specs.Stored.{stored-expr, stored-step, stored-exprs, stored-steps}
+use Rattle.plan.specs.Stored.{stored-expr, stored-step, stored-exprs, stored-steps, Steps-held}
 use Rattle.plan.specs.StoredLaws.{length-table}
-use Rattle.reading.specs.Held.{Exprs-held, Steps-held, sheet}
+use Rattle.reading.specs.Held.{Exprs-held, sheet}
 use Rattle.reading.specs.Lines.{Sound, All-taken, Lines-read}
 use Rattle.reading.specs.Plan.{plan-of, checked-plan, Plan-is}
 use Rattle.reading.specs.declared.lines.Tally.{Tally}
@@ -104,12 +104,8 @@ module _ (s : List ℕ) (h : length s ≤ 16384) where
 pub held-exprs : {es ps : List ℕ} {t : Tally} → Sound es ps t → Exprs-held es (t .exprs)
 held-exprs s = record { few = (let h = s .few-exprs in omega arith); formed = s .exprs }
 
-pub held-steps : {es ps : List ℕ} {t : Tally} → Sound es ps t → Steps-held ps (t .steps)
-held-steps s =
-    record {
-      few = s .few-steps;
-      each = λ i h. record { few = (let f = s .few-steps in omega arith); formed = s .steps i h };
-    }
+pub held-steps : {es ps : List ℕ} {t : Tally} → Sound es ps t → length ps ≡ 1024 → Steps-held ps (t .steps)
+held-steps s size = record { few = s .few-steps; size = size; formed = s .steps }
 
 pub refused-is : (s es ps : List ℕ) (r : Lines) (k : ℕ) → Lines-read s es ps r → r ≡ Lines.Refused k → read-lines (parts 10 s) no-lines ≡ refused k
 refused-is s es ps r k l e = subst (λ x. Lines-read s es ps x) e l

@@ -10,6 +10,7 @@ ghost use Rattle.simplify_ordering.specs.Walks.{Placed, Walk-asks, Walk-
 use crate::visit::Visited;
 use crate::visit::simplify_ir_node_orders;
 use expr::look::Tally;
+use plan::sizes::size_288;
 
 // How far a walk has come.
 pub struct Walked {
@@ -152,13 +153,6 @@ fn walk(
         i = i + 1;
     }
     r
-}
-
-// The length of the list, which its type says, as a fact for proofs. It does nothing.
-fn size_288(a: &[u8; 288])
-    ensures { λ r. ⌜ length (now (a .entry)) ≡ 288 ⌝ }
-{
-    let t = &a[..];
 }
 
 // The downward walk: along the visiting list, with nothing counted yet.

@@ -1,6 +1,7 @@
 use denote.Ref.{now}
 use native.Mathlib.Omega.{arith}
-use Rattle.node_rules.proofs.StoreLaws.{options-law, options-held, ir-small}
+use Rattle.plan.specs.KindNumbers.{ir-small}
+use Rattle.node_rules.proofs.StoreLaws.{options-law, options-held}
 use borrow.Author.Needs.{needs}
 use Rattle.node_rules.proofs.store.store_options.Statement.{statement}
 use Rattle.node_rules.proofs.store.store_options.Tie as tie

@@ -1,6 +1,7 @@
-use Rattle.simplify_ordering.proofs.ImplodeLaws.{stays, appended, has-room, length-arena}
+use Rattle.simplify_ordering.proofs.ImplodeLaws.{stays, appended, has-room}
 use Rattle.node_rules.specs.Held.{with-agg}
 use Rattle.plan.specs.Stored.{arena-of, stored-steps}
+use Rattle.plan.specs.StoredLaws.{length-arena}
 use mathlib.Core.Path.{_≡_, sym, _∙_, ap}
 use denote.Ref.{now}
 use native.Mathlib.Omega.{arith}

@@ -1,10 +1,10 @@
 use Rattle.simplify_ordering.proofs.LookLaws.{start-room, lists-asked, looks-given}
-use Rattle.node_rules.proofs.StepLaws.{length-steps}
 use Rattle.node_rules.specs.Held.{around-of, step-of}
 use Rattle.node_rules.specs.declared.rules.Options.{Options}
 use Rattle.plan.specs.Visit.{allow-deordering-top, looks-of}
 use Rattle.plan.specs.Stored.{arena-of, stored-steps}
 use Rattle.plan.specs.Sheet.{step-at}
+use Rattle.plan.specs.StoredLaws.{length-steps}
 use lib.ListN.{length}
 use Prim.Native.Nat.{_<_}
 use mathlib.Core.Path.{_≡_, sym, _∙_, ap, refl}

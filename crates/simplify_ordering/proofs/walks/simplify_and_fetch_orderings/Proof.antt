@@ -1,6 +1,5 @@
 use Rattle.simplify_ordering.proofs.FetchLaws.{down-refused, up-asks, answered, answer-held}
 use mathlib.Core.Path.{refl}
-use native.Mathlib.Omega.{arith}
 use borrow.Author.Needs.{needs}
 use Rattle.simplify_ordering.proofs.walks.simplify_and_fetch_orderings.Statement.{
   statement,

@@ -25,3 +25,9 @@ pub fn size_1024(a: &[u8; 1024])
 {
     let t = &a[..];
 }
+
+pub fn size_2048(a: &[u8; 2048])
+    ensures { λ r. ⌜ length (now (a .entry)) ≡ 2048 ⌝ }
+{
+    let t = &a[..];
+}
