@@ -1,4 +1,4 @@
-/* The call: a sheet of bytes in, its finished sheet or the number of a refusal out. */
+/* Two calls: a sheet of bytes in, its finished sheet or the number of a refusal out; and a paper marked against a sheet. */
 #ifndef SIMPLIFY_ORDERING_H
 #define SIMPLIFY_ORDERING_H
 
@@ -37,6 +37,21 @@ enum simplify_ordering_answer {
    A chain of 128 expressions takes it between 352 and 384 KiB of stack. */
 uint8_t simplify_ordering_finish(const uint8_t *sheet, size_t sheet_length, uint8_t *out, size_t out_length,
                                  size_t *finished);
+
+/* What marking answers, besides the number of a refusal: those are never 0 and never 255. */
+enum simplify_ordering_verdict {
+    SIMPLIFY_ORDERING_RIGHT = 0,   /* the paper's bytes are the G lines of the finished sheet, each ended by byte 10 */
+    SIMPLIFY_ORDERING_WRONG = 255, /* the sheet is finished, and the paper is anything else */
+};
+
+/* Marks the paper against the sheet. For right and wrong the finished sheet stands at the front of `out`, and the bytes behind
+   it are as they were. For a refusal, with the numbers of simplify_ordering_answer, every byte of `out` is as it was; the paper
+   has no part in it.
+   No pointer may be null, not even with a length of 0. The sheet and the paper are only read, and may overlap; `out` overlaps
+   neither, and nobody else writes to any of the three before the call returns. It keeps no pointer and no state.
+   A chain of 128 expressions takes it between 376 and 384 KiB of stack. */
+uint8_t simplify_ordering_mark(const uint8_t *sheet, size_t sheet_length, const uint8_t *paper, size_t paper_length,
+                               uint8_t *out, size_t out_length);
 
 #ifdef __cplusplus
 }

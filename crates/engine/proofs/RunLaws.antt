@@ -23,7 +23,7 @@ use Rattle.claims.specs.WellFormed.{WellFormed}
 use Rattle.reading.specs.Held.{sheet}
 use Rattle.ir_graph.specs.Edges.{made, edges-of}
 use Rattle.ir_graph.specs.declared.ir_graph.Graph.{Graph}
-use Rattle.expr.specs.declared.look.Tally.{Tally}
+use Rattle.tally.specs.declared.Tally.{Tally}
 use Rattle.expr.specs.Start.{Own-lines, None-off}
 use Rattle.expr.proofs.Asked.{based-of-sheet}
 use Rattle.expr.proofs.Starts.{all-same, arena-at-start}

@@ -16,9 +16,8 @@ use Rattle.claims.proofs.Changes.{Fits}
 use Rattle.claims.proofs.Changes as claims
 use Rattle.claims.proofs.Once.{formed-at-start}
 use Rattle.claims.proofs.ListFits.{list-fits}
-use Rattle.expr.specs.declared.look.Eos.{Eos}
-use Rattle.expr.specs.declared.look.Tally.{Tally}
-use Rattle.expr.specs.State.{eos-of, Falls, Based}
+use Rattle.tally.specs.declared.Tally.{Tally}
+use Rattle.expr.specs.State.{State, eos-of, Falls, Based}
 use Rattle.expr.specs.Projected.{Started, ListAsks}
 use Rattle.expr.specs.Start.{Own-lines, None-off}
 use Rattle.expr.proofs.Starts.{arena-at-start}
@@ -60,7 +59,7 @@ pub record Read-exprs (recs : List ℕ) (n : ℕ) : Type 0 where
   pub well-formed : WellFormed sheet
   pub same : stored-exprs recs n ≡ sheet .exprs
 
-module _ (recs : List ℕ) (n : ℕ) (k : Read-exprs recs n) (room : n * 16 ≤ length recs) (line : List ℕ) (off : List Bool) (tally : Tally) (s : Eos) (own : Own-lines line) (on : None-off off) (started : Started line off tally s) (start : tally .looks < 2 ^ 63) where
+module _ (recs : List ℕ) (n : ℕ) (k : Read-exprs recs n) (room : n * 16 ≤ length recs) (line : List ℕ) (off : List Bool) (tally : Tally) (s : State) (own : Own-lines line) (on : None-off off) (started : Started line off tally s) (start : tally .looks < 2 ^ 63) where
   size : length (k .sheet .exprs) ≡ n
   size = subst (λ es. length es ≡ n) (k .same) (length-stored recs n)
 

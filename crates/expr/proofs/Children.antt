@@ -16,21 +16,19 @@ use Rattle.plan.specs.Orders.{no-orders, add}
 use Rattle.plan.specs.Look.{in-order, look}
 use Rattle.plan.specs.Look as plan
 use Rattle.expr.specs.declared.before.Before.{Before}
-use Rattle.expr.specs.declared.look.Eos.{Eos}
-use Rattle.expr.specs.declared.look.Walk.{Walk}
 use Rattle.expr.specs.declared.order_acc.Seen.{Seen}
 use Rattle.expr.specs.declared.record.ExprRecord.{ExprRecord}
 use Rattle.expr.specs.Acc.{acc-of, Adds}
 use Rattle.expr.specs.Record.{record-of, slot, child-at}
-use Rattle.expr.specs.State.{eos-of, Kept}
+use Rattle.expr.specs.State.{State, eos-of, Kept}
 use Rattle.expr.specs.Tables.{before-of}
-use Rattle.expr.specs.Contract.{looked-of, LookAsks, LookGives, along-from, Begun, AlongAsks, AlongGives}
+use Rattle.expr.specs.Contract.{Walked, looked-of, LookAsks, LookGives, along-from, Begun, AlongAsks, AlongGives}
 use Rattle.expr.proofs.Records.{children-length, children-at}
 use Rattle.expr.proofs.States.{kept-trans, formed-kept, fielded, kept-fielded, eos-fielded, eos-field, begun-next}
 use Rattle.expr.proofs.Laws.{up-from, up-look}
 use Rattle.expr.proofs.Along.{length-in-order, slot-below, in-order-at, entered, along-more, along-end}
 
-module _ (recs : List ℕ) (n : ℕ) (s : Eos) (e : ExprRecord) (b : Before) (l : ℕ) (x : Seen) (i : ℕ) (r : AlongAsks recs n s e b l x i)
+module _ (recs : List ℕ) (n : ℕ) (s : State) (e : ExprRecord) (b : Before) (l : ℕ) (x : Seen) (i : ℕ) (r : AlongAsks recs n s e b l x i)
     (c : ℕ) (m : Bool) (c-is : c ≡ child-at e (b .turned) i) (m-is : m ≡ (if eqb i 0 then b .first else b .others)) where
   abbrev S : plan.Eos
   S = eos-of recs n s
@@ -83,9 +81,9 @@ module _ (recs : List ℕ) (n : ℕ) (s : Eos) (e : ExprRecord) (b : Before) (l 
   pub few-seen : x .acc .«num_ordered_inputs» < 255
   few-seen = omega (arith, r .begun .most, r .more, r .shaped .few)
 
-  module _ (t : Eos) (g : LookGives recs n s c m t) (next : Seen) (adds : Adds x (t .answer) c i next) (field : ObservableOrders)
+  module _ (t : State) (g : LookGives recs n s c m t) (next : Seen) (adds : Adds x (t .answer) c i next) (field : ObservableOrders)
       (field-is : field ≡ (if eqb i 0 && same-aexpr (e .kind) AExpr.StructEval then t .answer else t .field)) where
-    abbrev t₁ : Eos
+    abbrev t₁ : State
     t₁ = fielded field t
 
     t₁-kept : Kept s t₁
@@ -126,7 +124,7 @@ module _ (recs : List ℕ) (n : ℕ) (s : Eos) (e : ExprRecord) (b : Before) (l 
             fits = rw (step-is (r .fuel) (r .enough) (r .os) (r .begun)) at (r .fits);
           }
 
-      pub gives-more : (w : Walk) → AlongGives recs n t₁ e b l next (i + 1) w → AlongGives recs n s e b l x i w
+      pub gives-more : (w : Walked) → AlongGives recs n t₁ e b l next (i + 1) w → AlongGives recs n s e b l x i w
       gives-more w m =
           record {
             is = λ f h os begun. rw (step-is f h os begun) (m .is f h (os₁ os) (begun₁ os begun));

@@ -1,6 +1,6 @@
 -- What the code's list of projected expressions asks and gives, a law for each way through it.
 use mathlib.Core.Path.{_≡_, refl, sym, ap, _∙_, fun-ext}
-use Prim.Native.Nat.{ℕ, zero, suc, _<_, _≤_}
+use Prim.Native.Nat.{ℕ, _<_, _≤_}
 use native.Mathlib.Nat.{le-refl, lt-of-le-of-lt}
 use native.Mathlib.Omega.{arith}
 use mathlib.Core.Bool.{Bool, true, false, _&&_, _||_}
@@ -16,15 +16,13 @@ use Rattle.plan.specs.Look as plan
 use Rattle.plan.specs.Stored.{arena-of}
 use Rattle.plan.specs.Visit.{expr-order-simplifier}
 use Rattle.expr.specs.declared.before.Before.{Before}
-use Rattle.expr.specs.declared.look.Eos.{Eos}
-use Rattle.expr.specs.declared.look.Tally.{Tally}
-use Rattle.expr.specs.declared.look.Walk.{Walk}
+use Rattle.tally.specs.declared.Tally.{Tally}
 use Rattle.expr.specs.Acc.{acc-of, none-seen}
 use Rattle.expr.specs.Cache.{cache-of}
 use Rattle.expr.specs.Record.{record-of}
-use Rattle.expr.specs.State.{eos-of, Formed, Kept}
+use Rattle.expr.specs.State.{State, eos-of, Formed, Kept}
 use Rattle.expr.specs.Tables.{row-of, before-of}
-use Rattle.expr.specs.Contract.{looked-of, LookAsks, LookGives, Answers, along-from, AlongAsks, IsWalk, AlongGives}
+use Rattle.expr.specs.Contract.{Walked, looked-of, LookAsks, LookGives, Answers, along-from, AlongAsks, IsWalk, AlongGives}
 use Rattle.expr.specs.Projected.{Started, list-record, ListAsks, ListGives}
 use Rattle.expr.proofs.View.{arena-length}
 use Rattle.expr.proofs.Starts.{all-same}
@@ -96,30 +94,30 @@ again-not rec x s = refl
 
 -- The code's list ----------------------------------------------------------------------------------------------------------------
 
-abbrev pub observing : ObservableOrders → Eos → Eos
+abbrev pub observing : ObservableOrders → State → State
 observing o s =
     record { line = s .line; off = s .off; cache = s .cache; field = s .field; observed = o; tally = s .tally; answer = s .answer }
 
-kept-observing : (o : ObservableOrders) (s : Eos) → Kept s (observing o s)
+kept-observing : (o : ObservableOrders) (s : State) → Kept s (observing o s)
 kept-observing o s = record { sized = λ z. record { line = z .line; off = z .off; cache = z .cache }; lower = λ q. le-refl _; visits = refl }
 
-eos-observing : (recs : List ℕ) (n : ℕ) (s : Eos) (o : ObservableOrders) → eos-of recs n (observing (s .observed ∪ o) s) ≡ internal-observe o (eos-of recs n s)
+eos-observing : (recs : List ℕ) (n : ℕ) (s : State) (o : ObservableOrders) → eos-of recs n (observing (s .observed ∪ o) s) ≡ internal-observe o (eos-of recs n s)
 unfolding eos-of
 eos-observing recs n s o = refl
 
-same-observed : (recs : List ℕ) (n : ℕ) (s : Eos) → internal-observe ∅ (eos-of recs n s) ≡ eos-of recs n s
+same-observed : (recs : List ℕ) (n : ℕ) (s : State) → internal-observe ∅ (eos-of recs n s) ≡ eos-of recs n s
 unfolding eos-of
 same-observed recs n s = rw (nothing-more (s .observed))
 
-length-arena : (recs : List ℕ) (n : ℕ) (s : Eos) → length (eos-of recs n s .expr-arena) ≡ n
+length-arena : (recs : List ℕ) (n : ℕ) (s : State) → length (eos-of recs n s .expr-arena) ≡ n
 unfolding eos-of
 length-arena recs n s = arena-length recs n (s .line) (s .off)
 
-nothing-is : (recs : List ℕ) (n : ℕ) (s : Eos) (allow : Bool) → simplify-projected-exprs [] allow (eos-of recs n s) ≡ (∅, eos-of recs n s)
+nothing-is : (recs : List ℕ) (n : ℕ) (s : State) (allow : Bool) → simplify-projected-exprs [] allow (eos-of recs n s) ≡ (∅, eos-of recs n s)
 unfolding simplify-projected-exprs look-along look-again
 nothing-is recs n s allow = ap (λ (z : plan.Eos). (∅, z)) (same-observed recs n s)
 
-module _ (recs : List ℕ) (n : ℕ) (s : Eos) (nodes : List ℕ) (count : ℕ) (allow : Bool) (r : ListAsks recs n s nodes count allow) where
+module _ (recs : List ℕ) (n : ℕ) (s : State) (nodes : List ℕ) (count : ℕ) (allow : Bool) (r : ListAsks recs n s nodes count allow) where
   abbrev S : plan.Eos
   S = eos-of recs n s
 
@@ -157,10 +155,10 @@ module _ (recs : List ℕ) (n : ℕ) (s : Eos) (nodes : List ℕ) (count : ℕ) 
           fits = lt-of-le-of-lt (up-ended (look n) (up-look n) allow D) (rw list-is at (r .fits));
         }
 
-    module _ (w : Walk) (g : AlongGives recs n s (list-record nodes count) no-row n none-seen 0 w) (mixed observed : ObservableOrders)
+    module _ (w : Walked) (g : AlongGives recs n s (list-record nodes count) no-row n none-seen 0 w) (mixed observed : ObservableOrders)
         (mixed-is : mixed ≡ (if w .seen .acc .«saw_mixed_inputs» then w .seen .acc .acc else ∅))
         (observed-is : observed ≡ w .state .observed ∪ mixed) where
-      abbrev t₁ : Eos
+      abbrev t₁ : State
       t₁ = observing observed (w .state)
 
       walk-is : IsWalk recs n w D
@@ -211,7 +209,7 @@ module _ (recs : List ℕ) (n : ℕ) (s : Eos) (nodes : List ℕ) (count : ℕ) 
               fits = rw look-is at (r .fits);
             }
 
-        pub gives-top : (u : Eos) → LookGives recs n t₁ node true u → ListGives recs n s nodes count allow u
+        pub gives-top : (u : State) → LookGives recs n t₁ node true u → ListGives recs n s nodes count allow u
         gives-top u m = record { is = m .is n enough ∙ sym look-is; kept = kept-trans t₁-kept (m .kept) }
 
       pub gives-all : (single x && allow) ≡ false → ListGives recs n s nodes count allow (answering (w .seen .acc .acc) t₁)

@@ -1,5 +1,5 @@
 -- The lines before anything is changed: an arena of the stored records.
-use mathlib.Core.Path.{_≡_, refl, sym, _∙_}
+use mathlib.Core.Path.{_≡_, refl, _∙_}
 use Prim.Native.Nat.{ℕ, zero, suc, _+_, _≤_, _<_}
 use native.Mathlib.Omega.{arith}
 use native.Mathlib.Decide.{ℕ-discrete}
@@ -9,9 +9,8 @@ use lib.ListN.{length, getD, set, replicate, length-replicate, length-set}
 use lib.Seq.{getD-set-same, getD-set-other}
 use Rattle.plan.specs.Stored.{stored-exprs, stored-expr, held-expr, arena-of}
 use Rattle.plan.specs.StoredLaws.{same-table}
-use Rattle.expr.specs.declared.look.Eos.{Eos}
-use Rattle.expr.specs.declared.look.Tally.{Tally}
-use Rattle.expr.specs.State.{Formed}
+use Rattle.tally.specs.declared.Tally.{Tally}
+use Rattle.expr.specs.State.{State, Formed}
 use Rattle.expr.specs.Projected.{Started}
 use Rattle.expr.specs.Start.{Own-lines, None-off}
 
@@ -46,7 +45,7 @@ module _ (recs : List ℕ) (n : ℕ) (few : n ≤ 128) (line : List ℕ) (off : 
   unfolding arena-of stored-exprs held-expr
   arena-at-start = same-table (held-expr recs line off) (stored-expr recs) n (λ q h. rw (own .own q (omega (arith, few)), on .on q))
 
-  pub formed-at-start : (tally : Tally) (s : Eos) → Started line off tally s → Formed n s
+  pub formed-at-start : (tally : Tally) (s : State) → Started line off tally s → Formed n s
   formed-at-start tally s k =
       record {
         sized = record { line = rw (k .line-is) (own .size); off = rw (k .off-is) (on .size); cache = k .cache-size };

@@ -17,13 +17,12 @@ use Rattle.plan.specs.Sheet.{expr-at}
 use Rattle.plan.specs.Orders.{∅, _∪_, is-empty, add}
 use Rattle.plan.specs.Look.{one-look, with-arena, with-field, look-ended}
 use Rattle.expr.specs.declared.after.After.{After}
-use Rattle.expr.specs.declared.look.Eos.{Eos}
 use Rattle.expr.specs.declared.order_acc.Seen.{Seen}
 use Rattle.expr.specs.declared.record.ExprRecord.{ExprRecord}
 use Rattle.expr.specs.Acc.{Adds}
 use Rattle.expr.specs.Cache.{packed, cache-of}
 use Rattle.expr.specs.Record.{record-of, held}
-use Rattle.expr.specs.State.{eos-of, Sized, Formed, Kept}
+use Rattle.expr.specs.State.{State, eos-of, Formed, Kept}
 use Rattle.expr.specs.Tables.{after-of}
 use Rattle.expr.specs.Contract.{looked-of, Ended, Begun}
 use Rattle.expr.proofs.Accs.{sees-next}
@@ -31,15 +30,15 @@ use Rattle.expr.proofs.View.{arena-at, arena-copied, arena-off, cache-w
 
 -- What is kept -------------------------------------------------------------------------------------------------------------------
 
-pub kept-trans : {s t r : Eos} → Kept s t → Kept t r → Kept s r
+pub kept-trans : {s t r : State} → Kept s t → Kept t r → Kept s r
 kept-trans p q = record { sized = λ z. q .sized (p .sized z); lower = λ i. le-trans (q .lower i) (p .lower i); visits = q .visits ∙ p .visits }
 
-pub formed-kept : {n : ℕ} {s r : Eos} → Formed n s → Kept s r → Formed n r
+pub formed-kept : {n : ℕ} {s r : State} → Formed n s → Kept s r → Formed n r
 formed-kept f k = record { sized = k .sized (f .sized); below = λ q h. le-trans (k .lower q) (f .below q h) }
 
 -- The changes of the code's state ------------------------------------------------------------------------------------------------
 
-abbrev pub counted : Eos → Eos
+abbrev pub counted : State → State
 counted s =
     record {
       line = s .line;
@@ -51,15 +50,15 @@ counted s =
       answer = s .answer;
     }
 
-abbrev pub answering : ObservableOrders → Eos → Eos
+abbrev pub answering : ObservableOrders → State → State
 answering o s =
     record { line = s .line; off = s .off; cache = s .cache; field = s .field; observed = s .observed; tally = s .tally; answer = o }
 
-abbrev pub fielded : ObservableOrders → Eos → Eos
+abbrev pub fielded : ObservableOrders → State → State
 fielded o s =
     record { line = s .line; off = s .off; cache = s .cache; field = o; observed = s .observed; tally = s .tally; answer = s .answer }
 
-abbrev pub copied : ℕ → ℕ → Eos → Eos
+abbrev pub copied : ℕ → ℕ → State → State
 copied p c s =
     record {
       line = set (s .line) p (getD (s .line) c 0);
@@ -71,20 +70,20 @@ copied p c s =
       answer = s .answer;
     }
 
-pub kept-counted : (s : Eos) → Kept s (counted s)
+pub kept-counted : (s : State) → Kept s (counted s)
 kept-counted s = record { sized = λ z. record { line = z .line; off = z .off; cache = z .cache }; lower = λ q. le-refl _; visits = refl }
 
-pub kept-answering : (o : ObservableOrders) (s : Eos) → Kept s (answering o s)
+pub kept-answering : (o : ObservableOrders) (s : State) → Kept s (answering o s)
 kept-answering o s = record { sized = λ z. record { line = z .line; off = z .off; cache = z .cache }; lower = λ q. le-refl _; visits = refl }
 
-pub kept-fielded : (o : ObservableOrders) (s : Eos) → Kept s (fielded o s)
+pub kept-fielded : (o : ObservableOrders) (s : State) → Kept s (fielded o s)
 kept-fielded o s = record { sized = λ z. record { line = z .line; off = z .off; cache = z .cache }; lower = λ q. le-refl _; visits = refl }
 
 lower-at : (line : List ℕ) (p v : ℕ) → p < length line → v ≤ getD line p 0 → (q : ℕ) (t : Bool) → eqb q p ≡ t → getD (set line p v) q 0 ≤ getD line q 0
 lower-at line p v h k q true i = rw (eqb-true q p i) (rw (getD-set-same line p v 0 h) k)
 lower-at line p v h k q false i = rw (getD-set-other line p q v 0 (eqb-false q p i)) (le-refl _)
 
-pub kept-copied : (p c : ℕ) (s : Eos) → p < length (s .line) → getD (s .line) c 0 ≤ getD (s .line) p 0 → Kept s (copied p c s)
+pub kept-copied : (p c : ℕ) (s : State) → p < length (s .line) → getD (s .line) c 0 ≤ getD (s .line) p 0 → Kept s (copied p c s)
 kept-copied p c s h k =
     record {
       sized = λ z. record { line = rw length-set (z .line); off = rw length-set (z .off); cache = z .cache };
@@ -92,7 +91,7 @@ kept-copied p c s h k =
       visits = refl;
     }
 
-module _ (recs : List ℕ) (n : ℕ) (s : Eos) where
+module _ (recs : List ℕ) (n : ℕ) (s : State) where
   pub eos-arena : eos-of recs n s .expr-arena ≡ Rattle.plan.specs.Stored.arena-of recs (s .line) (s .off) n
   unfolding eos-of
   eos-arena = refl
@@ -132,13 +131,14 @@ module _ (recs : List ℕ) (n : ℕ) (s : Eos) where
 
 -- The end of a look --------------------------------------------------------------------------------------------------------------
 
-module _ (s : Eos) (p : ℕ) (e : ExprRecord) (v : After) (o field first : ObservableOrders) (within : p < 128) (sized : Sized s)
+module _ (s : State) (p : ℕ) (e : ExprRecord) (v : After) (o field first : ObservableOrders) (within : p < 128) (off-size : length (s .off) ≡ 128)
+    (cache-size : length (s .cache) ≡ 128)
     (loses : Bool) (observed : ObservableOrders) (byte entry : ℕ)
     (loses-is : loses ≡ (same-aexpr (e .kind) AExpr.Implode && yes? (e .option) && is-empty first))
     (observed-is : observed ≡ s .observed ∪ v .observes)
     (byte-is : byte ≡ packed o)
     (entry-is : entry ≡ (if v .caches then byte else getD (s .cache) p 0)) where
-  abbrev ends : Eos
+  abbrev ends : State
   ends =
       record {
         line = s .line;
@@ -160,8 +160,8 @@ module _ (s : Eos) (p : ℕ) (e : ExprRecord) (v : After) (o field first : Obser
         observed-is,
         entry-is,
         byte-is,
-        arena-off recs n (s .line) (s .off) p h loses (rw (sized .off) within),
-        cache-written (s .cache) p (rw (sized .cache) within) o (v .caches),
+        arena-off recs n (s .line) (s .off) p h loses (rw off-size within),
+        cache-written (s .cache) p (rw cache-size within) o (v .caches),
       )
 
   pub ended : Ended s p (record-of e) (after-of v) o field first ends

@@ -21,15 +21,13 @@ use Rattle.plan.specs.Look as plan
 use Rattle.plan.specs.Stored.{stored-expr, Expr-formed}
 use Rattle.expr.specs.declared.after.After.{After}
 use Rattle.expr.specs.declared.before.Before.{Before}
-use Rattle.expr.specs.declared.look.Eos.{Eos}
-use Rattle.expr.specs.declared.look.Walk.{Walk}
 use Rattle.expr.specs.declared.record.ExprRecord.{ExprRecord}
 use Rattle.expr.specs.Acc.{acc-of, none-seen}
 use Rattle.expr.specs.Cache.{unpacked, cache-of}
 use Rattle.expr.specs.Record.{record-of, held, IsHeld}
-use Rattle.expr.specs.State.{eos-of, Falls, Based, Formed, Kept, Readable, sorts, preserves, is-replaced-line}
+use Rattle.expr.specs.State.{State, eos-of, Falls, Based, Formed, Kept, Readable, sorts, preserves, is-replaced-line}
 use Rattle.expr.specs.Tables.{before-of, after-of, answers}
-use Rattle.expr.specs.Contract.{looked-of, LookAsks, LookGives, ended-by, Ended, AgainAsks, AgainGives, Answers, along-from, Begun, AlongAsks, IsWalk, AlongGives}
+use Rattle.expr.specs.Contract.{Walked, looked-of, LookAsks, LookGives, ended-by, Ended, AgainAsks, AgainGives, Answers, along-from, Begun, AlongAsks, IsWalk, AlongGives}
 use Rattle.expr.proofs.Records.{no, stored}
 use Rattle.expr.proofs.States.{kept-trans, formed-kept, counted, answering, copied, kept-counted, kept-answering, kept-copied, eos-cache, eos-field, eos-looks, eos-counted, eos-answering, eos-at, eos-copied}
 use Rattle.expr.proofs.Laws.{finish, after-answers, finish-again, finish-done, look-hit, look-copied, look-rest, up-finish, up-look, up-count}
@@ -96,7 +94,7 @@ unfolding held
 held-length-preserving recs l true = refl
 held-length-preserving recs l false = refl
 
-module _ (recs : List ℕ) (n : ℕ) (s : Eos) (p : ℕ) (based : Based recs n) (formed : Formed n s) (within : p < n) where
+module _ (recs : List ℕ) (n : ℕ) (s : State) (p : ℕ) (based : Based recs n) (formed : Formed n s) (within : p < n) where
   pub line-below : getD (s .line) p 0 < n
   line-below = lt-of-le-of-lt (formed .below p within) within
 
@@ -113,7 +111,7 @@ module _ (recs : List ℕ) (n : ℕ) (s : Eos) (p : ℕ) (based : Based recs n) 
   preserves-is =
       rw (eos-at recs n s p within, held-length-preserving recs (getD (s .line) p 0) (getD (s .off) p false), stored recs (getD (s .line) p 0) line-room line-formed)
 
-pub count-fits : (recs : List ℕ) (n : ℕ) (s : Eos) (p : ℕ) (allow : Bool) → LookAsks recs n s p allow → s .tally .looks + 1 < 2 ^ 64
+pub count-fits : (recs : List ℕ) (n : ℕ) (s : State) (p : ℕ) (allow : Bool) → LookAsks recs n s p allow → s .tally .looks + 1 < 2 ^ 64
 count-fits recs n s p allow r = go (r .fuel) (r .enough) (r .fits)
   where
     go : (f : ℕ) → getD (s .line) p 0 < f → look f allow p (eos-of recs n s) .1 .looks < 2 ^ 64 → s .tally .looks + 1 < 2 ^ 64
@@ -133,7 +131,7 @@ begun-none =
 
 -- A look at p, whose record is e -------------------------------------------------------------------------------------------------
 
-module _ (recs : List ℕ) (n : ℕ) (s : Eos) (p : ℕ) (allow : Bool) (r : LookAsks recs n s p allow) (e : ExprRecord)
+module _ (recs : List ℕ) (n : ℕ) (s : State) (p : ℕ) (allow : Bool) (r : LookAsks recs n s p allow) (e : ExprRecord)
     (is-e : IsHeld recs (getD (s .line) p 0) (getD (s .off) p false) e) where
   abbrev S : plan.Eos
   S = eos-of recs n s
@@ -238,7 +236,7 @@ module _ (recs : List ℕ) (n : ℕ) (s : Eos) (p : ℕ) (allow : Bool) (r : Loo
         c-within : c < n
         c-within = omega (arith, c-falls, l-below)
 
-        abbrev t₁ : Eos
+        abbrev t₁ : State
         t₁ = copied p c (counted s)
 
         p-128 : p < 128
@@ -278,7 +276,7 @@ module _ (recs : List ℕ) (n : ℕ) (s : Eos) (p : ℕ) (allow : Bool) (r : Loo
                   fits = rw (look-is f) at k;
                 }
 
-        pub gives-copy : (u : Eos) → LookGives recs n t₁ p allow u → LookGives recs n s p allow u
+        pub gives-copy : (u : State) → LookGives recs n t₁ p allow u → LookGives recs n s p allow u
         gives-copy u g = record { is = copy-is; kept = kept-trans t₁-kept (g .kept) }
           where
             copy-is : (f : ℕ) → l < f → looked-of recs n u ≡ look f allow p S
@@ -299,7 +297,7 @@ module _ (recs : List ℕ) (n : ℕ) (s : Eos) (p : ℕ) (allow : Bool) (r : Loo
             ∙ rw (b-is, eos-counted recs n s, eos-field recs n s)
 
         -- no children
-        module _ (none-there : e .count ≡ 0) (v : After) (o : ObservableOrders) (u : Eos)
+        module _ (none-there : e .count ≡ 0) (v : After) (o : ObservableOrders) (u : State)
             (v-is : after-of v ≡ after E allow (s .field) (answers none-seen) no-orders (e .kind))
             (o-is : o ≡ after-of v .answer ∅)
             (u-is : Ended (counted s) p E (after-of v) o (s .field) ∅ u) where
@@ -348,7 +346,7 @@ module _ (recs : List ℕ) (n : ℕ) (s : Eos) (p : ℕ) (allow : Bool) (r : Loo
                   fits = lt-of-le-of-lt (up-finish (look f) (up-look f) p E (s .field) (D f) (after-answers allow E (s .field) (D f))) (rw (rest-is f) at k);
                 }
 
-        module _ (w : Walk) (g : AlongGives recs n (counted s) e b l none-seen 0 w) (v : After)
+        module _ (w : Walked) (g : AlongGives recs n (counted s) e b l none-seen 0 w) (v : After)
             (v-is : after-of v ≡ after E allow (s .field) (answers (w .seen)) (acc-of (w .seen .acc)) (e .kind)) where
           walk-is : (f : ℕ) → l ≤ f → IsWalk recs n w (D f)
           walk-is f h = g .is f h [] begun-none
@@ -413,7 +411,7 @@ module _ (recs : List ℕ) (n : ℕ) (s : Eos) (p : ℕ) (allow : Bool) (r : Loo
             pub again-asks : AgainAsks recs n (w .state) node p
             again-asks = record { look = again-look; within = r .within }
 
-            pub gives-again : (t : Eos) → AgainGives recs n (w .state) node p E (after-of v) (s .field) (w .seen .first) t → LookGives recs n s p allow t
+            pub gives-again : (t : State) → AgainGives recs n (w .state) node p E (after-of v) (s .field) (w .seen .first) t → LookGives recs n s p allow t
             gives-again t m = record { is = again-is; kept = kept-trans walk-kept (m .kept) }
               where
                 again-is : (f : ℕ) → l < f → looked-of recs n t ≡ look f allow p S
@@ -423,7 +421,7 @@ module _ (recs : List ℕ) (n : ℕ) (s : Eos) (p : ℕ) (allow : Bool) (r : Loo
                     m .is f (omega (arith, again-falls, k)) (D f .0) (walk-is f k .sees .first) ∙ sym (look-twice f k)
 
           -- no second look
-          module _ (once : v .again ≡ false) (t : Eos) (o : ObservableOrders) (o-is : o ≡ after-of v .answer (w .seen .acc .acc))
+          module _ (once : v .again ≡ false) (t : State) (o : ObservableOrders) (o-is : o ≡ after-of v .answer (w .seen .acc .acc))
               (t-is : Ended (w .state) p E (after-of v) o (s .field) (w .seen .first) t) where
             done-is : (f : ℕ) → l < f → looked-of recs n t ≡ look f allow p S
             done-is zero h = absurd (omega arith)
@@ -437,7 +435,7 @@ module _ (recs : List ℕ) (n : ℕ) (s : Eos) (p : ℕ) (allow : Bool) (r : Loo
 
 -- The second look, and the end of the look at p ----------------------------------------------------------------------------------
 
-pub gives-twice : (recs : List ℕ) (n : ℕ) (s : Eos) (node p : ℕ) → AgainAsks recs n s node p → (e : Expr) (v : plan.After) (field first : ObservableOrders) (u t : Eos) (o : ObservableOrders)
+pub gives-twice : (recs : List ℕ) (n : ℕ) (s : State) (node p : ℕ) → AgainAsks recs n s node p → (e : Expr) (v : plan.After) (field first : ObservableOrders) (u t : State) (o : ObservableOrders)
     → LookGives recs n s node true u → o ≡ v .answer (u .answer) → Ended u p e v o field first t → AgainGives recs n s node p e v field first t
 gives-twice recs n s node p r e v field first u t o m o-is t-is =
     record {

@@ -9,22 +9,20 @@ use Rattle.plan.specs.Sheet.{Expr}
 use Rattle.plan.specs.Orders.{∅, ExprOrderAcc}
 use Rattle.plan.specs.Look.{Before, Look, look, look-along, look-along-children, look-ended, in-order}
 use Rattle.plan.specs.Look as plan
-use Rattle.expr.specs.declared.look.Eos.{Eos}
-use Rattle.expr.specs.declared.look.Walk.{Walk}
 use Rattle.expr.specs.declared.order_acc.Seen.{Seen}
 use Rattle.expr.specs.declared.record.ExprRecord.{ExprRecord}
 use Rattle.expr.specs.declared.before.Before as code
 use Rattle.expr.specs.Acc.{acc-of, none-seen, Sees}
 use Rattle.expr.specs.Record.{record-of, Shaped}
 use Rattle.expr.specs.Tables.{before-of}
-use Rattle.expr.specs.State.{eos-of, Falls, Based, Formed, Kept}
+use Rattle.expr.specs.State.{State, eos-of, Falls, Based, Formed, Kept}
 
 -- the answer and the state
-abbrev pub looked-of : List ℕ → ℕ → Eos → ObservableOrders × plan.Eos
+abbrev pub looked-of : List ℕ → ℕ → State → ObservableOrders × plan.Eos
 looked-of recs n r = (r .answer, eos-of recs n r)
 
 -- a look at p: at some sufficient fuel the definition's tally fits
-pub record LookAsks (recs : List ℕ) (n : ℕ) (s : Eos) (p : ℕ) (allow : Bool) : Type 0 where
+pub record LookAsks (recs : List ℕ) (n : ℕ) (s : State) (p : ℕ) (allow : Bool) : Type 0 where
   pub based : Based recs n
   pub formed : Formed n s
   pub within : p < n
@@ -33,7 +31,7 @@ pub record LookAsks (recs : List ℕ) (n : ℕ) (s : Eos) (p : ℕ) (allow : Boo
   pub fits : look fuel allow p (eos-of recs n s) .1 .looks < 2 ^ 64
 
 -- it is the definition's, at every sufficient fuel
-pub record LookGives (recs : List ℕ) (n : ℕ) (s : Eos) (p : ℕ) (allow : Bool) (r : Eos) : Type 0 where
+pub record LookGives (recs : List ℕ) (n : ℕ) (s : State) (p : ℕ) (allow : Bool) (r : State) : Type 0 where
   pub is : (f : ℕ) → getD (s .line) p 0 < f → looked-of recs n r ≡ look f allow p (eos-of recs n s)
   pub kept : Kept s r
 
@@ -42,17 +40,17 @@ abbrev pub ended-by : ObservableOrders × plan.Eos → ℕ → Expr → plan.Aft
 ended-by r p e v field os = (v .answer (r .0), look-ended p e v (v .answer (r .0)) field os (r .1))
 
 -- the end of a look at p, whose record was e, for every base and every list of answers that begins with the first one
-pub record Ended (s : Eos) (p : ℕ) (e : Expr) (v : plan.After) (o field first : ObservableOrders) (r : Eos) : Type 0 where
+pub record Ended (s : State) (p : ℕ) (e : Expr) (v : plan.After) (o field first : ObservableOrders) (r : State) : Type 0 where
   pub is : (recs : List ℕ) (n : ℕ) (os : List ObservableOrders) → p < n → getD os 0 ∅ ≡ first
       → looked-of recs n r ≡ (o, look-ended p e v o field os (eos-of recs n s))
   pub kept : Kept s r
 
 -- a second look, at the node, and the end of the look at p
-pub record AgainAsks (recs : List ℕ) (n : ℕ) (s : Eos) (node p : ℕ) : Type 0 where
+pub record AgainAsks (recs : List ℕ) (n : ℕ) (s : State) (node p : ℕ) : Type 0 where
   pub look : LookAsks recs n s node true
   pub within : p < n
 
-pub record AgainGives (recs : List ℕ) (n : ℕ) (s : Eos) (node p : ℕ) (e : Expr) (v : plan.After) (field first : ObservableOrders) (r : Eos) : Type 0 where
+pub record AgainGives (recs : List ℕ) (n : ℕ) (s : State) (node p : ℕ) (e : Expr) (v : plan.After) (field first : ObservableOrders) (r : State) : Type 0 where
   pub is : (f : ℕ) → getD (s .line) node 0 < f → (os : List ObservableOrders) → getD os 0 ∅ ≡ first
       → looked-of recs n r ≡ ended-by (look f true node (eos-of recs n s)) p e v field os
   pub kept : Kept s r
@@ -76,7 +74,7 @@ pub record Begun (l i : ℕ) (os : List ObservableOrders) (x : Seen) : Type 0 wh
   pub start : i ≡ 0 → x ≡ none-seen
 
 -- the children of e are below l
-pub record AlongAsks (recs : List ℕ) (n : ℕ) (s : Eos) (e : ExprRecord) (b : code.Before) (l : ℕ) (x : Seen) (i : ℕ) : Type 0 where
+pub record AlongAsks (recs : List ℕ) (n : ℕ) (s : State) (e : ExprRecord) (b : code.Before) (l : ℕ) (x : Seen) (i : ℕ) : Type 0 where
   pub based : Based recs n
   pub formed : Formed n s
   pub shaped : Shaped e
@@ -89,13 +87,21 @@ pub record AlongAsks (recs : List ℕ) (n : ℕ) (s : Eos) (e : ExprRecord) (b :
   pub enough : l ≤ fuel
   pub fits : along-from (look fuel) (record-of e) (before-of b) i os (acc-of (x .acc)) (eos-of recs n s) .2 .looks < 2 ^ 64
 
+-- the state after a look along the children, and what was seen of them
+pub record Walked : Type 0 where
+  pub state : State
+  pub seen : Seen
+
+abbrev pub walked : State → Seen → Walked
+walked s x = record { state = s; seen = x }
+
 -- the code's walk is the definition's, as far as a record reads it
-pub record IsWalk (recs : List ℕ) (n : ℕ) (r : Walk) (d : Answers) : Type 0 where
+pub record IsWalk (recs : List ℕ) (n : ℕ) (r : Walked) (d : Answers) : Type 0 where
   pub sees : Sees (d .0) (r .seen)
   pub acc : d .1 ≡ acc-of (r .seen .acc)
   pub state : d .2 ≡ eos-of recs n (r .state)
 
-pub record AlongGives (recs : List ℕ) (n : ℕ) (s : Eos) (e : ExprRecord) (b : code.Before) (l : ℕ) (x : Seen) (i : ℕ) (r : Walk) : Type 0 where
+pub record AlongGives (recs : List ℕ) (n : ℕ) (s : State) (e : ExprRecord) (b : code.Before) (l : ℕ) (x : Seen) (i : ℕ) (r : Walked) : Type 0 where
   pub is : (f : ℕ) → l ≤ f → (os : List ObservableOrders) → Begun l i os x
       → IsWalk recs n r (along-from (look f) (record-of e) (before-of b) i os (acc-of (x .acc)) (eos-of recs n s))
   pub kept : Kept s (r .state)

@@ -8,13 +8,12 @@ use Rattle.plan.specs.declared.aexpr.AExpr.{AExpr}
 use Rattle.plan.specs.Look.{simplify-projected-exprs}
 use Rattle.plan.specs.Stored.{arena-of}
 use Rattle.plan.specs.Visit.{expr-order-simplifier}
-use Rattle.expr.specs.declared.look.Eos.{Eos}
-use Rattle.expr.specs.declared.look.Tally.{Tally}
+use Rattle.tally.specs.declared.Tally.{Tally}
 use Rattle.expr.specs.declared.record.ExprRecord.{ExprRecord}
-use Rattle.expr.specs.State.{eos-of, Falls, Based, Formed, Kept}
+use Rattle.expr.specs.State.{State, eos-of, Falls, Based, Formed, Kept}
 use Rattle.expr.specs.Contract.{looked-of}
 
-pub record Started (line : List ℕ) (off : List Bool) (tally : Tally) (r : Eos) : Type 0 where
+pub record Started (line : List ℕ) (off : List Bool) (tally : Tally) (r : State) : Type 0 where
   pub is : (recs : List ℕ) (n : ℕ) → eos-of recs n r ≡ expr-order-simplifier (arena-of recs line off n) (tally .looks)
   pub line-is : r .line ≡ line
   pub off-is : r .off ≡ off
@@ -27,7 +26,7 @@ list-record nodes count =
     record { kind = AExpr.Column; scalar = false; «length_preserving» = false; option = 0; count = count; children = nodes }
 
 -- the list is the first `count` of the nodes
-pub record ListAsks (recs : List ℕ) (n : ℕ) (s : Eos) (nodes : List ℕ) (count : ℕ) (allow : Bool) : Type 0 where
+pub record ListAsks (recs : List ℕ) (n : ℕ) (s : State) (nodes : List ℕ) (count : ℕ) (allow : Bool) : Type 0 where
   pub based : Based recs n
   pub formed : Formed n s
   pub few : count ≤ 8
@@ -35,6 +34,6 @@ pub record ListAsks (recs : List ℕ) (n : ℕ) (s : Eos) (nodes : List ℕ) (co
   pub falls : Falls n (take count nodes)
   pub fits : simplify-projected-exprs (take count nodes) allow (eos-of recs n s) .1 .looks < 2 ^ 64
 
-pub record ListGives (recs : List ℕ) (n : ℕ) (s : Eos) (nodes : List ℕ) (count : ℕ) (allow : Bool) (r : Eos) : Type 0 where
+pub record ListGives (recs : List ℕ) (n : ℕ) (s : State) (nodes : List ℕ) (count : ℕ) (allow : Bool) (r : State) : Type 0 where
   pub is : looked-of recs n r ≡ simplify-projected-exprs (take count nodes) allow (eos-of recs n s)
   pub kept : Kept s r

@@ -11,10 +11,27 @@ use Rattle.plan.specs.Lists.{all?}
 use Rattle.plan.specs.Sheet.{Expr}
 use Rattle.plan.specs.Look as look
 use Rattle.plan.specs.Stored.{stored-expr, arena-of, Expr-formed}
+use Rattle.tally.specs.declared.Tally.{Tally}
+use Rattle.plan.specs.declared.orders.ObservableOrders.{ObservableOrders}
 use Rattle.expr.specs.declared.look.Eos.{Eos}
 use Rattle.expr.specs.Cache.{cache-of}
 
-unfoldable pub eos-of : List ℕ → ℕ → Eos → look.Eos
+-- the lines and the cache that are lent, and the state beside them
+pub record State : Type 0 where
+  pub line : List ℕ
+  pub off : List Bool
+  pub cache : List ℕ
+  pub field : ObservableOrders
+  pub observed : ObservableOrders
+  pub tally : Tally
+  pub answer : ObservableOrders
+
+abbrev pub state : List ℕ → List Bool → List ℕ → Eos → State
+state line off cache s =
+    record { line = line; off = off; cache = cache; field = s .field; observed = s .observed; tally = s .tally; answer = s .answer }
+
+-- as the definition has it
+unfoldable pub eos-of : List ℕ → ℕ → State → look.Eos
 eos-of recs n s =
     record {
       expr-arena = arena-of recs (s .line) (s .off) n;
@@ -42,18 +59,18 @@ pub record Based (recs : List ℕ) (n : ℕ) : Type 0 where
 
 -- The lines ----------------------------------------------------------------------------------------------------------------------
 
-pub record Sized (s : Eos) : Type 0 where
+pub record Sized (s : State) : Type 0 where
   pub line : length (s .line) ≡ 128
   pub off : length (s .off) ≡ 128
   pub cache : length (s .cache) ≡ 128
 
 -- a line holds its own record or a lower one
-pub record Formed (n : ℕ) (s : Eos) : Type 0 where
+pub record Formed (n : ℕ) (s : State) : Type 0 where
   pub sized : Sized s
   pub below : (q : ℕ) → q < n → getD (s .line) q 0 ≤ q
 
 -- no line holds a base record above the one that it held before
-pub record Kept (s r : Eos) : Type 0 where
+pub record Kept (s r : State) : Type 0 where
   pub sized : Sized s → Sized r
   pub lower : (q : ℕ) → getD (r .line) q 0 ≤ getD (s .line) q 0
   pub visits : r .tally .visits ≡ s .tally .visits

@@ -1,8 +1,9 @@
 // A look at a record, and along its children: `rec` of expr.rs.
 ghost use mathlib.Core.Path.{_≡_};
 ghost use mathlib.Core.Bool.{_&&_};
-ghost use Prim.Native.Nat.{_+_, _<_};
-ghost use lib.ListN.{drop};
+ghost use Prim.Native.Nat.{ℕ, _<_};
+ghost use mathlib.Core.List.{List};
+ghost use lib.ListN.{length, drop};
 ghost use lib.Dec.{eqb};
 ghost use Rattle.plan.specs.Kinds.{same-aexpr};
 ghost use Rattle.plan.specs.Lists.{if_then_else_, yes?, all?};
@@ -10,8 +11,8 @@ ghost use Rattle.plan.specs.Orders.{is-empty};
 ghost use Rattle.plan.specs.declared.aexpr.AExpr.{AExpr};
 ghost use Rattle.expr.specs.Tables.{after-of};
 ghost use Rattle.expr.specs.Record.{record-of, Shaped};
-ghost use Rattle.expr.specs.State.{Sized, preserves, is-replaced-line, Readable};
-ghost use Rattle.expr.specs.Contract.{Ended, LookAsks, LookGives, AgainAsks, AgainGives, AlongAsks, AlongGives};
+ghost use Rattle.expr.specs.State.{state, preserves, is-replaced-line, Readable};
+ghost use Rattle.expr.specs.Contract.{walked, Ended, LookAsks, LookGives, AgainAsks, AgainGives, AlongAsks, AlongGives};
 use crate::after::After;
 use crate::after::answer;
 use crate::before::Before;
@@ -25,21 +26,13 @@ use crate::revisit_cache::packed;
 use crate::revisit_cache::unpacked;
 use plan::aexpr::AExpr;
 use plan::orders::ObservableOrders;
+use tally::Tally;
+use tally::looked;
 
-// How many visits and looks were made.
-pub struct Tally {
-    pub visits: u64,
-    pub looks: u64,
-}
-
-// What the looks of one visit share: ExprOrderSimplifier.
+// What the looks of one visit share: ExprOrderSimplifier. Its own fields go by value. Lent to it, as in the Rust, are the
+// arena and the revisit_cache: `line` has the base record that each line holds now, and `off` whether its Implode was
+// switched off.
 pub struct Eos {
-    // The base record that each line holds now.
-    pub line: [u8; 128],
-    // Was the line's Implode switched off?
-    pub off: [bool; 128],
-    // revisit_cache
-    pub cache: [u8; 128],
     // struct_field_ordering
     pub field: ObservableOrders,
     // internally_observed
@@ -127,6 +120,8 @@ fn mode(b: Before, i: u8) -> bool
 
 // The end of a look at p, whose record was e: o the answer, field the struct's field before it, first the first child's answer.
 fn look_ended(
+    off: &mut [bool; 128],
+    cache: &mut [u8; 128],
     s: Eos,
     p: usize,
     e: ExprRecord,
@@ -135,69 +130,84 @@ fn look_ended(
     field: ObservableOrders,
     first: ObservableOrders,
 ) -> Eos
-    requires { ⌜ (p < 128) × Sized s ⌝ }
-    ensures { λ r. ⌜ Ended s p (record-of e) (after-of v) o field first r ⌝ }
+    requires { ⌜ (p < 128) × (length (now off) ≡ 128) × (length (now cache) ≡ 128) ⌝ }
+    ensures { λ r. ⌜ ((line : List ℕ) → Ended (state line (now (off .entry)) (now (cache .entry)) s) p (record-of e) (after-of v) o field first (state line (now (off .exit)) (now (cache .exit)) r)) ⌝ }
 {
     let mut t = s;
-    let was = t.off[p];
-    let entry = t.cache[p];
+    let was = off[p];
+    let entry = cache[p];
     let before = t.observed;
     let observes = v.observes;
     let observed = before.union(observes);
     t.field = field;
     t.observed = observed;
-    t.off[p] = was | loses_order(e, first);
-    t.cache[p] = pick_byte(v.caches, packed(o), entry);
+    off[p] = was | loses_order(e, first);
+    cache[p] = pick_byte(v.caches, packed(o), entry);
     t.answer = o;
     t
 }
 
 // A look at p. allow: is de-ordering allowed?
-pub fn look(recs: &[u8; 2048], n: usize, s: Eos, p: usize, allow: bool) -> Eos
-    requires { ⌜ LookAsks (now recs) n s p allow ⌝ }
-    ensures { λ r. ⌜ LookGives (now (recs .entry)) n s p allow r ⌝ }
+pub fn look(
+    recs: &[u8; 2048],
+    line: &mut [u8; 128],
+    off: &mut [bool; 128],
+    cache: &mut [u8; 128],
+    n: usize,
+    s: Eos,
+    p: usize,
+    allow: bool,
+) -> Eos
+    requires { ⌜ LookAsks (now recs) n (state (now line) (now off) (now cache) s) p allow ⌝ }
+    ensures { λ r. ⌜ LookGives (now (recs .entry)) n (state (now (line .entry)) (now (off .entry)) (now (cache .entry)) s) p allow (state (now (line .exit)) (now (off .exit)) (now (cache .exit)) r) ⌝ }
 {
     let mut t = s;
-    t.tally.looks = t.tally.looks + 1;
-    let l = t.line[p];
-    let off = t.off[p];
-    let entry = t.cache[p];
+    let tally = t.tally;
+    t.tally = looked(tally);
+    let l = line[p];
+    let entry = cache[p];
     let field = t.field;
-    let e = expr_of(recs, l, off);
+    let e = expr_of(recs, l, off[p]);
     let b = Before::of(e, allow);
     if b.checks & (entry != 0) {
         let o = unpacked(entry);
         t.answer = o;
         return t;
     }
-    if is_replaced(recs, &t.line, e, allow) {
+    if is_replaced(recs, line, e, allow) {
         let c = first_child(e) as usize;
-        let l1 = t.line[c];
-        let off1 = t.off[c];
-        t.line[p] = l1;
-        t.off[p] = off1;
-        return look(recs, n, t, p, allow);
+        let l1 = line[c];
+        let off1 = off[c];
+        line[p] = l1;
+        off[p] = off1;
+        return look(recs, line, off, cache, n, t, p, allow);
     }
     let none = Seen::new();
     if e.count == 0 {
         let v = After::of(e, allow, field, none);
-        return look_ended(t, p, e, v, answer(v, none.first), field, none.first);
+        let o = answer(v, none.first);
+        return look_ended(off, cache, t, p, e, v, o, field, none.first);
     }
-    let w = look_along(recs, n, t, e, b, l, none, 0);
+    let w = look_along(recs, line, off, cache, n, t, e, b, l, none, 0);
+    let u = w.state;
     let seen = w.seen;
+    let first = seen.first;
     let acc = seen.acc;
     let v = After::of(e, allow, field, seen);
     if v.again {
         let node = acc.last_ordered_node as usize;
-        return look_again(recs, n, w.state, node, p, e, v, field, seen.first);
+        return look_again(recs, line, off, cache, n, u, node, p, e, v, field, first);
     }
-    look_ended(w.state, p, e, v, answer(v, acc.acc), field, seen.first)
+    let o = answer(v, acc.acc);
+    look_ended(off, cache, u, p, e, v, o, field, first)
 }
 
-// The single ordered child once more, and the end of the look at p. A function of its own, so that its state takes no room
-// on the stack while looks go along children.
+// The single ordered child once more, and the end of the look at p.
 fn look_again(
     recs: &[u8; 2048],
+    line: &mut [u8; 128],
+    off: &mut [bool; 128],
+    cache: &mut [u8; 128],
     n: usize,
     s: Eos,
     node: usize,
@@ -207,16 +217,19 @@ fn look_again(
     field: ObservableOrders,
     first: ObservableOrders,
 ) -> Eos
-    requires { ⌜ AgainAsks (now recs) n s node p ⌝ }
-    ensures { λ r. ⌜ AgainGives (now (recs .entry)) n s node p (record-of e) (after-of v) field first r ⌝ }
+    requires { ⌜ AgainAsks (now recs) n (state (now line) (now off) (now cache) s) node p ⌝ }
+    ensures { λ r. ⌜ AgainGives (now (recs .entry)) n (state (now (line .entry)) (now (off .entry)) (now (cache .entry)) s) node p (record-of e) (after-of v) field first (state (now (line .exit)) (now (off .exit)) (now (cache .exit)) r) ⌝ }
 {
-    let u = look(recs, n, s, node, true);
-    look_ended(u, p, e, v, answer(v, u.answer), field, first)
+    let u = look(recs, line, off, cache, n, s, node, true);
+    look_ended(off, cache, u, p, e, v, answer(v, u.answer), field, first)
 }
 
 // A look along the children of e from the i-th on; each is below l.
 pub fn look_along(
     recs: &[u8; 2048],
+    line: &mut [u8; 128],
+    off: &mut [bool; 128],
+    cache: &mut [u8; 128],
     n: usize,
     s: Eos,
     e: ExprRecord,
@@ -225,11 +238,11 @@ pub fn look_along(
     seen: Seen,
     i: u8,
 ) -> Walk
-    requires { ⌜ AlongAsks (now recs) n s e b l seen i ⌝ }
-    ensures { λ r. ⌜ AlongGives (now (recs .entry)) n s e b l seen i r ⌝ }
+    requires { ⌜ AlongAsks (now recs) n (state (now line) (now off) (now cache) s) e b l seen i ⌝ }
+    ensures { λ r. ⌜ AlongGives (now (recs .entry)) n (state (now (line .entry)) (now (off .entry)) (now (cache .entry)) s) e b l seen i (walked (state (now (line .exit)) (now (off .exit)) (now (cache .exit)) (r .state)) (r .seen)) ⌝ }
 {
     let c = child_of(e, b.turned, i);
-    let mut t = look(recs, n, s, c as usize, mode(b, i));
+    let mut t = look(recs, line, off, cache, n, s, c as usize, mode(b, i));
     let o = t.answer;
     let next = seen.add(o, c, i);
     let kind = e.kind;
@@ -242,5 +255,5 @@ pub fn look_along(
             seen: next,
         };
     }
-    look_along(recs, n, t, e, b, l, next, i + 1)
+    look_along(recs, line, off, cache, n, t, e, b, l, next, i + 1)
 }

@@ -1,9 +1,12 @@
 // A list of projected expressions, and the state that a visit starts with.
 ghost use mathlib.Core.Path.{_≡_};
+ghost use mathlib.Core.Bool.{Bool};
+ghost use mathlib.Core.List.{List};
+ghost use Prim.Native.Nat.{ℕ};
+ghost use Rattle.expr.specs.State.{state};
 ghost use Rattle.expr.specs.Projected.{list-record, Started, ListAsks, ListGives};
 use crate::before::Before;
 use crate::look::Eos;
-use crate::look::Tally;
 use crate::look::look;
 use crate::look::look_along;
 use crate::order_acc::Seen;
@@ -11,6 +14,7 @@ use crate::order_acc::pick;
 use crate::record::ExprRecord;
 use plan::aexpr::AExpr;
 use plan::orders::ObservableOrders;
+use tally::Tally;
 
 const EMPTY: ObservableOrders = ObservableOrders {
     column: false,
@@ -18,13 +22,11 @@ const EMPTY: ObservableOrders = ObservableOrders {
 };
 
 // expr_order_simplifier!
-pub fn expr_order_simplifier(line: [u8; 128], off: [bool; 128], tally: Tally) -> Eos
-    ensures { λ r. ⌜ Started line off tally r ⌝ }
+pub fn expr_order_simplifier(cache: &mut [u8; 128], tally: Tally) -> Eos
+    ensures { λ r. ⌜ ((line : List ℕ) (off : List Bool) → Started line off tally (state line off (now (cache .exit)) r)) ⌝ }
 {
+    *cache = [0; 128];
     Eos {
-        line: line,
-        off: off,
-        cache: [0; 128],
         field: EMPTY,
         observed: EMPTY,
         tally: tally,
@@ -48,14 +50,17 @@ fn list_of(nodes: [u8; 8], count: u8) -> ExprRecord
 
 pub fn simplify_projected_exprs(
     recs: &[u8; 2048],
+    line: &mut [u8; 128],
+    off: &mut [bool; 128],
+    cache: &mut [u8; 128],
     n: usize,
     s: Eos,
     nodes: [u8; 8],
     count: u8,
     allow_deordering_top: bool,
 ) -> Eos
-    requires { ⌜ ListAsks (now recs) n s nodes count «allow_deordering_top» ⌝ }
-    ensures { λ r. ⌜ ListGives (now (recs .entry)) n s nodes count «allow_deordering_top» r ⌝ }
+    requires { ⌜ ListAsks (now recs) n (state (now line) (now off) (now cache) s) nodes count «allow_deordering_top» ⌝ }
+    ensures { λ r. ⌜ ListGives (now (recs .entry)) n (state (now (line .entry)) (now (off .entry)) (now (cache .entry)) s) nodes count «allow_deordering_top» (state (now (line .exit)) (now (off .exit)) (now (cache .exit)) r) ⌝ }
 {
     if count == 0 {
         let mut t = s;
@@ -70,7 +75,7 @@ pub fn simplify_projected_exprs(
         first: false,
         others: false,
     };
-    let w = look_along(recs, n, s, e, b, n as u8, Seen::new(), 0);
+    let w = look_along(recs, line, off, cache, n, s, e, b, n as u8, Seen::new(), 0);
     let mut t = w.state;
     let seen = w.seen;
     let acc = seen.acc;
@@ -78,7 +83,16 @@ pub fn simplify_projected_exprs(
     let observed = so_far.union(pick(acc.saw_mixed_inputs, acc.acc, EMPTY));
     t.observed = observed;
     if (acc.num_ordered_inputs == 1) & allow_deordering_top {
-        return look(recs, n, t, acc.last_ordered_node as usize, true);
+        return look(
+            recs,
+            line,
+            off,
+            cache,
+            n,
+            t,
+            acc.last_ordered_node as usize,
+            true,
+        );
     }
     let o = acc.acc;
     t.answer = o;

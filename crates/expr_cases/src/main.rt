@@ -7,7 +7,6 @@ ghost use lib.ListN.{length, take};
 ghost use Rattle.expr.specs.State.{Falls};
 ghost use Rattle.expr.proofs.Asked.{Read-exprs};
 use expr::look::Eos;
-use expr::look::Tally;
 use expr::projected::expr_order_simplifier;
 use expr::projected::simplify_projected_exprs;
 use expr::sizes::size_2048;
@@ -16,6 +15,7 @@ use expr::start::own_lines;
 use libc::STDOUT_FILENO;
 use plan::orders::ObservableOrders;
 use reading::read_plan;
+use tally::Tally;
 
 fn wide(x: u8) -> usize
     ensures { λ r. ⌜ (r ≡ x) × (r < 256) ⌝ }
@@ -125,21 +125,31 @@ fn list_agrees(recs: &[u8; 2048], n: usize, c: Case, b: &[u8]) -> bool
     requires { ⌜ (c .count ≤ 8) × (length (c .nodes) ≡ 8) × Falls n (take (c .count) (c .nodes)) ⌝ }
 {
     size_2048(recs);
+    let mut line = own_lines();
+    let mut off = none_off();
+    let mut cache: [u8; 128] = [0; 128];
     let start = expr_order_simplifier(
-        own_lines(),
-        none_off(),
+        &mut cache,
         Tally {
             visits: 0,
             looks: 0,
         },
     );
     let nodes = c.nodes;
-    let s = simplify_projected_exprs(recs, n, start, nodes, c.count, c.allow);
+    let s = simplify_projected_exprs(
+        recs,
+        &mut line,
+        &mut off,
+        &mut cache,
+        n,
+        start,
+        nodes,
+        c.count,
+        c.allow,
+    );
     if !answers_agree(s, c) {
         return false;
     }
-    let line = s.line;
-    let off = s.off;
     records_agree(recs, n, line, off, b)
 }
 

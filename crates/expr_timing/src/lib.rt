@@ -6,12 +6,12 @@ ghost use Rattle.plan.specs.Look.{simplify-projected-exprs};
 ghost use Rattle.plan.specs.Stored.{stored-exprs};
 ghost use Rattle.plan.specs.Visit.{expr-order-simplifier};
 ghost use Rattle.expr.proofs.Asked.{Read-exprs};
-use expr::look::Tally;
 use expr::projected::expr_order_simplifier;
 use expr::projected::simplify_projected_exprs;
 use expr::sizes::size_2048;
 use expr::start::none_off;
 use expr::start::own_lines;
+use tally::Tally;
 
 // The looks at the list of the root alone, from the state that a run starts with.
 #[no_mangle]
@@ -25,9 +25,11 @@ pub extern "C" fn list_looks(
     ensures { λ r. ⌜ r ≡ simplify-projected-exprs (root ∷ []) «allow_deordering_top» (expr-order-simplifier (stored-exprs (now (recs .entry)) n) 0) .1 .looks ⌝ }
 {
     size_2048(recs);
+    let mut line = own_lines();
+    let mut off = none_off();
+    let mut cache: [u8; 128] = [0; 128];
     let start = expr_order_simplifier(
-        own_lines(),
-        none_off(),
+        &mut cache,
         Tally {
             visits: 0,
             looks: 0,
@@ -35,6 +37,9 @@ pub extern "C" fn list_looks(
     );
     let s = simplify_projected_exprs(
         recs,
+        &mut line,
+        &mut off,
+        &mut cache,
         n,
         start,
         [root, 0, 0, 0, 0, 0, 0, 0],

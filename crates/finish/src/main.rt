@@ -1,61 +1,19 @@
 // Finishes the sheet on standard input: the finished sheet, or the refusal's number, on standard output.
 ghost use Prim.Native.Nat.{_≤_};
 ghost use lib.ListN.{length};
-ghost use Rattle.io.specs.Counts.{Counts};
 ghost use Rattle.plan.specs.Finished.{answer-length};
 use libc::STDIN_FILENO;
 use libc::STDOUT_FILENO;
 use plan::answer::Answer;
+use streams::read_input;
+use streams::write_front;
+use writing::lines::put_refusal;
 
-// How many bytes were read, or that a read failed.
-struct Input {
-    failed: bool,
-    length: usize,
-}
-
-// One read; it moves nothing at the end of the input.
-fn read_once(buf: &mut [u8]) -> Input
-    ensures { λ r. ⌜ r .length ≤ length (now (buf .entry)) ⌝ }
-{
-    let got = libc::read(STDIN_FILENO, buf);
-    Input {
-        failed: got < 0,
-        length: io::count(got, buf),
-    }
-}
-
-// Reads until the input ends or the buffer is full, whichever comes first.
-fn read_input(buf: &mut [u8]) -> Input
-    ensures { λ r. ⌜ Counts (r .length) (now (buf .exit)) ⌝ }
-{
-    let mut done: usize = 0;
-    while done < buf.len() {
-        let got = read_once(&mut buf[done..]);
-        if got.failed {
-            return Input {
-                failed: true,
-                length: 0,
-            };
-        }
-        if got.length == 0 {
-            break;
-        }
-        done += got.length;
-    }
-    Input {
-        failed: false,
-        length: done,
-    }
-}
-
-fn put_refusal(number: u8) -> bool {
-    if !io::write_all(STDOUT_FILENO, b"R,") {
-        return false;
-    }
-    if !io::print_decimal(STDOUT_FILENO, number as u64) {
-        return false;
-    }
-    io::write_all(STDOUT_FILENO, b"\n")
+// Did all of the refusal's line go out?
+fn print_refusal(number: u8) -> bool {
+    let mut line: [u8; 6] = [0; 6];
+    let n = put_refusal(&mut line, number);
+    write_front(STDOUT_FILENO, &line, n)
 }
 
 // Did all of the answer go out?
@@ -63,18 +21,15 @@ fn put_answer(answer: Answer, out: &[u8]) -> bool
     requires { ⌜ answer-length answer ≤ length (now out) ⌝ }
 {
     match answer {
-        Answer::Finished(f) => {
-            let n = f.length;
-            io::write_all(STDOUT_FILENO, &out[..n])
-        }
-        Answer::Refused(number) => put_refusal(number),
+        Answer::Finished(f) => write_front(STDOUT_FILENO, out, f.length),
+        Answer::Refused(number) => print_refusal(number),
     }
 }
 
 // A sheet of more than 16,384 bytes is refused, so one byte more is all that has to be read of it.
 fn main() {
     let mut sheet: [u8; 16385] = [0; 16385];
-    let input = read_input(&mut sheet);
+    let input = read_input(STDIN_FILENO, &mut sheet);
     if input.failed {
         os::fail(b"standard input");
         return;

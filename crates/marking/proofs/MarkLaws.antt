@@ -23,7 +23,7 @@ use Rattle.claims.proofs.Demand1.{demand-1}
 use Rattle.claims.proofs.Outcomes.{same-value}
 use Rattle.engine.specs.Call.{call}
 use Rattle.marking.specs.declared.answer.Mark.{Mark}
-use Rattle.marking.specs.Marking.{Mark-called, mark-call, verdict, mark-of, marked, marked-run, Marking-kept}
+use Rattle.marking.specs.Marking.{Mark-called, mark-call, verdict, mark-of, marked, marked-run, mark-answer, Tellable, Marking-kept}
 
 -- The comparison -----------------------------------------------------------------------------------------------------------------
 
@@ -146,6 +146,24 @@ not-short true o w e = let z : _≡_ {A = ℕ} 1 0 = ap which e in absurd (omega
     which (done x) = 0
 not-short false o w e = e
 
+-- one mark to a number
+told-apart : (a b : Mark) → Tellable a → Tellable b → mark-answer a ≡ mark-answer b → a ≡ b
+unfolding mark-answer
+told-apart Mark.Right Mark.Right x y e = refl
+told-apart Mark.Right Mark.Wrong x y e = absurd (omega arith)
+told-apart Mark.Right (Mark.Refused n) x y e = absurd (omega arith)
+told-apart Mark.Wrong Mark.Right x y e = absurd (omega arith)
+told-apart Mark.Wrong Mark.Wrong x y e = refl
+told-apart Mark.Wrong (Mark.Refused n) x y e = absurd (omega arith)
+told-apart (Mark.Refused m) Mark.Right x y e = absurd (omega arith)
+told-apart (Mark.Refused m) Mark.Wrong x y e = absurd (omega arith)
+told-apart (Mark.Refused m) (Mark.Refused n) x y e = ap Mark.Refused e
+
+few-tellable : (a : Mark) → ((n : ℕ) → a ≡ Mark.Refused n → (1 ≤ n) × (n ≤ 11)) → Tellable a
+few-tellable Mark.Right h = tt
+few-tellable Mark.Wrong h = tt
+few-tellable (Mark.Refused n) h = let k = h n refl in (k .0, omega (arith, k .1))
+
 module _ (s output : List ℕ) where
   has-g-line : (w : Run) → marked-run s output ≡ done w → [] ≡ edges-block w → ⊥
   unfolding finish called edges-block told
@@ -197,4 +215,8 @@ module _ (s output : List ℕ) where
         wrong = λ w e p. answer-is paper w e ∙ sym (wrong-if-not paper (edges-block w) p);
         empty-wrong = λ w e. answer-is [] w e ∙ sym (wrong-if-not [] (edges-block w) (has-g-line w e));
         numbers = eleven paper;
+        tellable = few-tellable (marked s paper output .answer) (eleven paper);
+        told =
+            λ m t e.
+            told-apart (marked s paper output .answer) m (few-tellable (marked s paper output .answer) (eleven paper)) t e;
       }

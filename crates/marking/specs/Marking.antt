@@ -2,12 +2,13 @@
 use mathlib.Core.Path.{_≡_}
 use Prim.Native.Nat.{ℕ, _≤_}
 use mathlib.Core.Bool.{Bool, true, false}
-use mathlib.Core.List.{List, [], _∷_, _++_}
+use mathlib.Core.List.{List, [], _∷_}
 use Rattle.plan.specs.Lists.{same}
 use Rattle.plan.specs.Sheet.{Outcome, refused, done, refuse_when_else_}
 use Rattle.plan.specs.Finished.{run, finish, too-short}
-use Rattle.plan.specs.Text.{edges-block, decimal}
+use Rattle.plan.specs.Text.{edges-block}
 use Rattle.plan.specs.Visit.{Run}
+use Rattle.writing.specs.Refusal.{refusal-line}
 use Rattle.marking.specs.declared.answer.Mark.{Mark}
 
 -- what marking answers, and the bytes of the output at its exit
@@ -41,17 +42,23 @@ marked s paper output =
 
 -- What an answer says, by document 01 ----------------------------------------------------------------------------------------
 
--- the refusal's number; 0 for none
-abbrev pub mark-number : Mark → ℕ
-mark-number Mark.Right = 0
-mark-number Mark.Wrong = 0
-mark-number (Mark.Refused n) = n
-
 -- the line that is printed: `right`, `wrong`, or `R,` and the number; and byte 10
 unfoldable pub mark-line : Mark → List ℕ
 mark-line Mark.Right = 114 ∷ 105 ∷ 103 ∷ 104 ∷ 116 ∷ 10 ∷ []
 mark-line Mark.Wrong = 119 ∷ 114 ∷ 111 ∷ 110 ∷ 103 ∷ 10 ∷ []
-mark-line (Mark.Refused n) = 82 ∷ 44 ∷ (decimal n ++ (10 ∷ []))
+mark-line (Mark.Refused n) = refusal-line n
+
+-- the number that C is told: 0 for right, 255 for wrong, else the refusal's
+unfoldable pub mark-answer : Mark → ℕ
+mark-answer Mark.Right = 0
+mark-answer Mark.Wrong = 255
+mark-answer (Mark.Refused n) = n
+
+-- a mark that its number tells from every other such mark
+abbrev pub Tellable : Mark → Type 0
+Tellable Mark.Right = Unit {0}
+Tellable Mark.Wrong = Unit {0}
+Tellable (Mark.Refused n) = (1 ≤ n) × (n ≤ 254)
 
 -- Laws, of every sheet s, paper and output -----------------------------------------------------------------------------------------
 
@@ -63,3 +70,6 @@ pub record Marking-kept (s paper output : List ℕ) : Type 0 where
   pub empty-wrong : (whole : Run) → marked-run s output ≡ done whole → marked s [] output .answer ≡ Mark.Wrong
   -- a refusal has one of eleven numbers
   pub numbers : (n : ℕ) → marked s paper output .answer ≡ Mark.Refused n → (1 ≤ n) × (n ≤ 11)
+  -- what C is told settles the answer
+  pub tellable : Tellable (marked s paper output .answer)
+  pub told : (m : Mark) → Tellable m → mark-answer (marked s paper output .answer) ≡ mark-answer m → marked s paper output .answer ≡ m

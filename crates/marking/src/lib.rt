@@ -8,6 +8,7 @@ use crate::answer::Mark;
 use plan::answer::Answer;
 
 pub mod answer; // answer.rt: what marking answers
+pub mod line; // line.rt: the line that is printed for it
 
 // Is the paper what stands in the output from the place `start` up to the place `end`?
 fn compare(paper: &[u8], out: &[u8], start: usize, end: usize) -> Mark

@@ -1,5 +1,7 @@
-// Papers through mark, and its answer to each, one to a line, with the number of bytes that the output then holds.
+// Papers through mark: for each, a line with the number of bytes that the output then holds, and the answer.
 use marking::answer::Mark;
+use marking::line::put_mark;
+use streams::write_front;
 
 // The byte that stands everywhere in an output before the call; no finished sheet has it.
 const FILLER: u8 = 170;
@@ -17,25 +19,16 @@ fn written(out: &[u8]) -> usize {
 }
 
 fn print_mark(answer: Mark) {
-    match answer {
-        Mark::Right => {
-            io::write_all(1, b"right");
-        }
-        Mark::Wrong => {
-            io::write_all(1, b"wrong");
-        }
-        Mark::Refused(k) => {
-            io::write_all(1, b"R,");
-            io::print_decimal(1, k as u64);
-        }
-    }
+    let mut line: [u8; 6] = [0; 6];
+    let n = put_mark(&mut line, answer);
+    write_front(1, &line, n);
 }
 
 fn show_in(sheet: &[u8], paper: &[u8], out: &mut [u8]) {
-    print_mark(marking::mark(sheet, paper, out));
-    io::write_all(1, b" ");
+    let answer = marking::mark(sheet, paper, out);
     io::print_decimal(1, written(out) as u64);
-    io::write_all(1, b"\n");
+    io::write_all(1, b" ");
+    print_mark(answer);
 }
 
 fn show(sheet: &[u8], paper: &[u8]) {

@@ -18,11 +18,10 @@ use Rattle.plan.specs.Visit.{expr-order-simplifier, imploded, with-implodes, wi
 use Rattle.plan.specs.Visit as Visit
 use Rattle.plan.specs.StoredLaws.{length-arena}
 use Rattle.claims.proofs.Counts.{mem-at}
-use Rattle.expr.specs.declared.look.Eos.{Eos}
-use Rattle.expr.specs.declared.look.Tally.{Tally}
+use Rattle.tally.specs.declared.Tally.{Tally}
 use Rattle.expr.specs.Contract.{looked-of}
 use Rattle.expr.specs.Projected.{Started, ListAsks, ListGives}
-use Rattle.expr.specs.State.{eos-of, Falls, Formed}
+use Rattle.expr.specs.State.{State, eos-of, Falls, Formed}
 use Rattle.simplify_ordering.specs.declared.looks.Looked.{Looked}
 use Rattle.node_rules.specs.declared.steps.Entries.{Entries}
 use Rattle.simplify_ordering.specs.Arena.{Arena-held}
@@ -33,7 +32,7 @@ falls-below : (n : ℕ) (xs : List ℕ) → ((q : ℕ) → List·Memᴰ q xs →
 falls-below n xs there = record { child = λ k h. there (getD xs k 0) (mem-at xs k 0 h) }
 
 module _ (recs line : List ℕ) (off : List Bool) (n : ℕ) (tally : Tally) (xs ys : List ℕ) (exprs aggs : Entries) (allow : Bool)
-    (ask : Lists-ask recs line off n (tally .looks) xs ys exprs aggs allow) (s : Eos) (started : Started line off tally s) where
+    (ask : Lists-ask recs line off n (tally .looks) xs ys exprs aggs allow) (s : State) (started : Started line off tally s) where
   abbrev es : List Expr
   es = arena-of recs line off n
 
@@ -60,7 +59,7 @@ module _ (recs line : List ℕ) (off : List Bool) (n : ℕ) (tally : Tally) (xs 
         fits = rw (ask .exprs-are .is, started .is recs n) (ask .between);
       }
 
-  module _ (b : Eos) (g : ListGives recs n s (exprs .nodes) (exprs .count) allow b) where
+  module _ (b : State) (g : ListGives recs n s (exprs .nodes) (exprs .count) allow b) where
     between-is : looked-of recs n b ≡ first xs allow es (tally .looks)
     between-is = rw (ask .exprs-are .is, started .is recs n) at (g .is)
 
@@ -85,7 +84,7 @@ module _ (recs line : List ℕ) (off : List Bool) (n : ℕ) (tally : Tally) (xs 
           fits = rw (ask .aggs-are .is, between-eos) (ask .end);
         }
 
-    module _ (t : Eos) (h : ListGives recs n b (aggs .nodes) (aggs .count) false t) where
+    module _ (t : State) (h : ListGives recs n b (aggs .nodes) (aggs .count) false t) where
       end-is : looked-of recs n t ≡ second xs ys allow es (tally .looks)
       end-is = rw (ask .aggs-are .is, between-eos) at (h .is)
 

@@ -19,7 +19,7 @@ use Rattle.plan.specs.Visit.{Run, Around, Observable, Looked, around, with-aggs
 use Rattle.plan.specs.Visit as Visit
 use Rattle.plan.specs.Visit.{no-edge}
 use Rattle.plan.specs.StoredLaws.{length-table, table-at, length-steps}
-use Rattle.expr.specs.declared.look.Tally.{Tally}
+use Rattle.tally.specs.declared.Tally.{Tally}
 use Rattle.node_rules.specs.declared.around.Around as code
 use Rattle.node_rules.specs.declared.rules.Options.{Options}
 use Rattle.node_rules.specs.Held.{around-of, options-of, Unlinked, Unlinkable, Edges-held, held-edge, held-edges}

@@ -11,7 +11,7 @@ use Rattle.plan.specs.Graph.{Edge}
 use Rattle.plan.specs.Stored.{arena-of, stored-steps, Steps-held}
 use Rattle.plan.specs.Visit.{Run, rule, loosened, join-fails, sink-fails, looked-in}
 use Rattle.plan.specs.Visit as Visit
-use Rattle.expr.specs.declared.look.Tally.{Tally}
+use Rattle.tally.specs.declared.Tally.{Tally}
 use Rattle.simplify_ordering.specs.declared.visit.Visit.{Visit}
 use Rattle.simplify_ordering.specs.declared.visit.Visited.{Visited}
 use Rattle.simplify_ordering.specs.Arena.{Arena-held}

@@ -10,7 +10,6 @@ ghost use Rattle.simplify_ordering.specs.Arena.{Arena-held};
 ghost use Rattle.node_rules.specs.Held.{around-of, options-of};
 ghost use Rattle.simplify_ordering.specs.Looks.{Lists-ask, Lists-give, Listed, Looks-give};
 use crate::implode::append_implodes;
-use expr::look::Tally;
 use expr::projected::expr_order_simplifier;
 use expr::projected::simplify_projected_exprs;
 use node_rules::around::Around;
@@ -21,6 +20,7 @@ use node_rules::steps::Entries;
 use node_rules::steps::aggs_of;
 use node_rules::steps::exprs_of;
 use plan::ir::IR;
+use tally::Tally;
 
 // What was observed, the tally afterwards, and how many records the arena has.
 pub struct Looked {
@@ -43,16 +43,33 @@ fn look_at_lists(
     requires { ⌜ Lists-ask (now recs) (now line) (now off) n (tally .looks) (take (exprs .count) (exprs .nodes)) (take (aggs .count) (aggs .nodes)) exprs aggs allow ⌝ }
     ensures { λ r. ⌜ Lists-give (now (recs .entry)) (now (line .entry)) (now (off .entry)) n tally (take (exprs .count) (exprs .nodes)) (take (aggs .count) (aggs .nodes)) allow (now (line .exit)) (now (off .exit)) r ⌝ }
 {
-    let start = expr_order_simplifier(*line, *off, tally);
+    let mut cache: [u8; 128] = [0; 128];
+    let start = expr_order_simplifier(&mut cache, tally);
     let expr_nodes = exprs.nodes;
-    let between = simplify_projected_exprs(recs, n, start, expr_nodes, exprs.count, allow);
+    let between = simplify_projected_exprs(
+        recs,
+        line,
+        off,
+        &mut cache,
+        n,
+        start,
+        expr_nodes,
+        exprs.count,
+        allow,
+    );
     let exprs_observable = between.answer;
     let agg_nodes = aggs.nodes;
-    let end = simplify_projected_exprs(recs, n, between, agg_nodes, aggs.count, false);
-    let line_now = end.line;
-    *line = line_now;
-    let off_now = end.off;
-    *off = off_now;
+    let end = simplify_projected_exprs(
+        recs,
+        line,
+        off,
+        &mut cache,
+        n,
+        between,
+        agg_nodes,
+        aggs.count,
+        false,
+    );
     let aggs_observable = end.answer;
     let internal = end.observed;
     let tally_now = end.tally;

@@ -14,7 +14,6 @@ ghost use Rattle.claims.specs.Visitable.{Visitable};
 ghost use Rattle.node_rules.specs.Held.{held-edges, around-of, observable-of, options-of};
 ghost use Rattle.simplify_ordering.specs.Run.{run-of, Run-held, refusal-number, Ruled-by, visited-of, Settle-asks};
 use crate::looks::looks_of;
-use expr::look::Tally;
 use node_rules::around::Around;
 use node_rules::around::around_step;
 use node_rules::loosen::loosen_edges;
@@ -25,6 +24,8 @@ use node_rules::rules::rule_of;
 use node_rules::steps::options_of;
 use node_rules::store::store_options;
 use node_rules::unlink::unlink_node;
+use tally::Tally;
+use tally::visited;
 
 // What comes of a visit: the step was settled, or it was a sort that is removed, or the sheet is refused by 10 or 11.
 pub enum Visited {
@@ -144,17 +145,6 @@ fn goes(s: Options, e: Around) -> bool
     (kind.number() == 5) & e.out & !(s.b == 1)
 }
 
-// The counter of visits.
-fn one_visit(tally: Tally) -> Tally
-    requires { ⌜ tally .visits + 1 < 2 ^ 64 ⌝ }
-    ensures { λ r. ⌜ (r .visits ≡ tally .visits + 1) × (r .looks ≡ tally .looks) ⌝ }
-{
-    Tally {
-        visits: tally.visits + 1,
-        looks: tally.looks,
-    }
-}
-
 pub fn simplify_ir_node_orders(
     recs: &mut [u8; 2048],
     line: &mut [u8; 128],
@@ -178,7 +168,7 @@ pub fn simplify_ir_node_orders(
     let i = n as usize;
     let s = options_of(steps, n_steps, i);
     let e = around_step(consumer, slot, producer, unordered, edges, n);
-    let t = one_visit(tally);
+    let t = visited(tally);
     if goes(s, e) {
         unlink_node(
             steps,

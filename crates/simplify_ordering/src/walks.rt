@@ -9,8 +9,8 @@ ghost use Rattle.simplify_ordering.specs.Run.{run-of, Run-held};
 ghost use Rattle.simplify_ordering.specs.Walks.{Placed, Walk-asks, Walk-gives, sheet-of, Fetch-asks, Down-gives, Answers, Orderings-are, Orderings-held};
 use crate::visit::Visited;
 use crate::visit::simplify_ir_node_orders;
-use expr::look::Tally;
 use plan::sizes::size_288;
+use tally::Tally;
 
 // How far a walk has come.
 pub struct Walked {

@@ -6,6 +6,7 @@ ghost use lib.ListN.{length};
 ghost use Rattle.plan.specs.Lists.{concat-map, digit};
 ghost use mathlib.Core.Bool.{not};
 ghost use Rattle.plan.specs.Text.{line};
+ghost use Rattle.writing.specs.Refusal.{refusal-line};
 ghost use Rattle.writing.specs.Wrote.{Wrote, field};
 use crate::fields::put_byte;
 use crate::fields::put_field;
@@ -61,4 +62,13 @@ pub fn put_tally(out: &mut [u8], removed: u64, visits: u64, looks: u64) -> usize
     let c = b + put_wide_field(&mut out[b..], visits);
     let d = c + put_wide_field(&mut out[c..], looks);
     d + put_byte(&mut out[d..], 10)
+}
+
+// What is printed for a refusal.
+pub fn put_refusal(out: &mut [u8], number: u8) -> usize
+    requires { ⌜ 6 ≤ length (now out) ⌝ }
+    ensures { λ r. ⌜ Wrote (refusal-line number) (now (out .entry)) (now (out .exit)) r × (r ≤ 6) ⌝ }
+{
+    let ns = [number];
+    put_line(out, 82, &ns)
 }

@@ -11,9 +11,8 @@ use Rattle.plan.specs.Look.{simplify-projected-exprs}
 use Rattle.plan.specs.Look as plan
 use Rattle.plan.specs.Stored.{arena-of, stored-exprs}
 use Rattle.plan.specs.Visit.{expr-order-simplifier}
-use Rattle.expr.specs.declared.look.Eos.{Eos}
 use Rattle.expr.specs.Projected.{Started, ListGives}
-use Rattle.expr.specs.State.{eos-of, Falls}
+use Rattle.expr.specs.State.{State, eos-of, Falls}
 use Rattle.expr.proofs.Asked.{asks-at-start}
 use Rattle.expr.proofs.Starts.{arena-at-start}
 use borrow.Author.Needs.{needs}
@@ -29,8 +28,8 @@ one-below n root l h = record { child = child }
     child (suc k) b = absurd (omega arith)
 
 -- from the stored records, the looks are the definition's
-looks-are : (recs : List ℕ) (n : ℕ) (line : List ℕ) (off : List Bool) → arena-of recs line off n ≡ stored-exprs recs n → (start : Eos)
-    → Started line off (record { visits = 0; looks = 0 }) start → (root : ℕ) (l : List ℕ) (allow : Bool) (r : Eos) → ListGives recs n start (root ∷ l) 1 allow r
+looks-are : (recs : List ℕ) (n : ℕ) (line : List ℕ) (off : List Bool) → arena-of recs line off n ≡ stored-exprs recs n → (start : State)
+    → Started line off (record { visits = 0; looks = 0 }) start → (root : ℕ) (l : List ℕ) (allow : Bool) (r : State) → ListGives recs n start (root ∷ l) 1 allow r
     → r .tally .looks ≡ simplify-projected-exprs (root ∷ []) allow (expr-order-simplifier (stored-exprs recs n) 0) .1 .looks
 unfolding eos-of
 looks-are recs n line off same start started root l allow r g =
@@ -52,17 +51,16 @@ expr-order-simplifier-requires c κs = search needs
 
 simplify-projected-exprs-requires : tie.Need-simplify-projected-exprs-requires
 simplify-projected-exprs-requires c κs =
-    let p = c .before .before .before .before .pre in
-    let size = c .before .before .before .size-2048 .ensures in
-    asks-at-start _ _ (p .0) (omega (arith, size, p .0 .few)) _ _ _ _ (c .before .before .own-lines .ensures) (c .before .none-off .ensures) (c .expr-order-simplifier .ensures) (omega arith) _ _ _ (omega arith) refl (one-below _ _ (0 ∷ 0 ∷ 0 ∷ 0 ∷ 0 ∷ 0 ∷ 0 ∷ []) (p .1))
+    let p = c .before .before .before .before .before .before .before .before .pre in
+    let size = c .before .before .before .before .before .before .before .size-2048 .ensures in
+    asks-at-start _ _ (p .0) (omega (arith, size, p .0 .few)) _ _ _ _ (c .before .before .before .before .before .before .own-lines .ensures) (c .before .before .before .before .before .none-off .ensures) (c .before .before .before .expr-order-simplifier .ensures _ _) (omega arith) _ _ _ (omega arith) refl (one-below _ _ (0 ∷ 0 ∷ 0 ∷ 0 ∷ 0 ∷ 0 ∷ 0 ∷ []) (p .1))
 
 returns : tie.Need-returns
 returns c =
-    let a = c .before .before .before .before .before .before .args in
-    let p = c .before .before .before .before .before .before .pre in
-    let same = arena-at-start (now (a .recs)) (a .n) (p .0 .few) _ _ (c .before .before .before .before .own-lines .ensures) (c .before .before .before .none-off .ensures) in
-    looks-are (now (a .recs)) (a .n) _ _ same (c .before .before .expr-order-simplifier .result) (c .before .before .expr-order-simplifier .ensures) (a .root)
-    (0 ∷ 0 ∷ 0 ∷ 0 ∷ 0 ∷ 0 ∷ 0 ∷ []) (a .allow-deordering-top) (c .before .simplify-projected-exprs .result) (c .before .simplify-projected-exprs .ensures)
+    let a = c .before .before .before .before .before .before .before .before .before .before .args in
+    let p = c .before .before .before .before .before .before .before .before .before .before .pre in
+    let same = arena-at-start (now (a .recs)) (a .n) (p .0 .few) _ _ (c .before .before .before .before .before .before .before .before .own-lines .ensures) (c .before .before .before .before .before .before .before .none-off .ensures) in
+    looks-are (now (a .recs)) (a .n) _ _ same _ (c .before .before .before .before .before .expr-order-simplifier .ensures _ _) (a .root) (0 ∷ 0 ∷ 0 ∷ 0 ∷ 0 ∷ 0 ∷ 0 ∷ []) (a .allow-deordering-top) _ (c .before .simplify-projected-exprs .ensures)
 
 pub list-looks-spec : {M : Type 1} → statement M
 list-looks-spec =

@@ -32,42 +32,45 @@ use Rattle.expr.proofs.record.child_of.Reads as child-of-reads
 use Rattle.expr.proofs.record.expr_of.Reads as expr-of-reads
 use Rattle.expr.proofs.record.first_child.Reads as first-child-reads
 use Rattle.expr.proofs.revisit_cache.unpacked.Reads as unpacked-reads
+use Rattle.tally.proofs.looked.Reads as looked-reads
 use Rattle.expr.proofs.look.+look+look_again+look_along.{statement}
 use Rattle.expr.proofs.look.+look+look_again+look_along.Tie.{close}
 
-abbrev μ-look : Measures 1 look-kinds.ps ℕ
-μ-look κs a = getD (a .1 .1 .0 .line) (a .1 .1 .1 .0) 0 * 16 + 15
+abbrev μ-look : Measures 4 look-kinds.ps ℕ
+μ-look κs a = getD (a .1 .0 .now) (a .1 .1 .1 .1 .1 .1 .0) 0 * 16 + 15
 
-abbrev μ-look-again : Measures 1 look-again-kinds.ps ℕ
-μ-look-again κs a = getD (a .1 .1 .0 .line) (a .1 .1 .1 .0) 0 * 16 + 16
+abbrev μ-look-again : Measures 4 look-again-kinds.ps ℕ
+μ-look-again κs a = getD (a .1 .0 .now) (a .1 .1 .1 .1 .1 .1 .0) 0 * 16 + 16
 
-abbrev μ-look-along : Measures 1 look-along-kinds.ps ℕ
-μ-look-along κs a = a .1 .1 .1 .1 .1 .0 * 16 + (a .1 .1 .1 .0 .count - a .1 .1 .1 .1 .1 .1 .1 .0)
+abbrev μ-look-along : Measures 4 look-along-kinds.ps ℕ
+μ-look-along κs a = a .1 .1 .1 .1 .1 .1 .1 .1 .0 * 16 + (a .1 .1 .1 .1 .1 .1 .0 .count - a .1 .1 .1 .1 .1 .1 .1 .1 .1 .1 .0)
 
-abbrev look-at : ℕ → In 1 look-kinds.ps
-look-at t = and 1 look-kinds.ps (is 1 look-kinds.ps μ-look t) look.Pre
+abbrev look-at : ℕ → In 4 look-kinds.ps
+look-at t = and 4 look-kinds.ps (is 4 look-kinds.ps μ-look t) look.Pre
 
-abbrev look-below : ℕ → In 1 look-kinds.ps
-look-below t = and 1 look-kinds.ps (falls 1 look-kinds.ps _<_ μ-look t) look.Pre
+abbrev look-below : ℕ → In 4 look-kinds.ps
+look-below t = and 4 look-kinds.ps (falls 4 look-kinds.ps _<_ μ-look t) look.Pre
 
-abbrev look-again-at : ℕ → In 1 look-again-kinds.ps
+abbrev look-again-at : ℕ → In 4 look-again-kinds.ps
 look-again-at t =
-    and 1 look-again-kinds.ps (is 1 look-again-kinds.ps μ-look-again t) look-again.Pre
+    and 4 look-again-kinds.ps (is 4 look-again-kinds.ps μ-look-again t) look-again.Pre
 
-abbrev look-again-below : ℕ → In 1 look-again-kinds.ps
+abbrev look-again-below : ℕ → In 4 look-again-kinds.ps
 look-again-below t =
-    and 1 look-again-kinds.ps (falls 1 look-again-kinds.ps _<_ μ-look-again t) look-again.Pre
+    and 4 look-again-kinds.ps (falls 4 look-again-kinds.ps _<_ μ-look-again t) look-again.Pre
 
-abbrev look-along-at : ℕ → In 1 look-along-kinds.ps
+abbrev look-along-at : ℕ → In 4 look-along-kinds.ps
 look-along-at t =
-    and 1 look-along-kinds.ps (is 1 look-along-kinds.ps μ-look-along t) look-along.Pre
+    and 4 look-along-kinds.ps (is 4 look-along-kinds.ps μ-look-along t) look-along.Pre
 
-abbrev look-along-below : ℕ → In 1 look-along-kinds.ps
+abbrev look-along-below : ℕ → In 4 look-along-kinds.ps
 look-along-below t =
-    and 1 look-along-kinds.ps (falls 1 look-along-kinds.ps _<_ μ-look-along t) look-along.Pre
+    and 4 look-along-kinds.ps (falls 4 look-along-kinds.ps _<_ μ-look-along t) look-along.Pre
 
 abbrev look-claims : ℕ → look-lts.Claims
 look-claims t = (
+  looked-reads.Asked,
+  looked-reads.Learnt,
   expr-of-reads.Asked,
   expr-of-reads.Learnt,
   before-Before-of-reads.Asked,
@@ -121,19 +124,19 @@ look-along-claims t = (
 )
 
 module _ (t : ℕ) where
-  look-add-t : look-lts.Need-add-t (look-claims t) (look-at t) look.Post
-  look-add-t c =
-      let asks = c .pre .1 in
+  look-looked-requires : look-lts.Need-looked-requires (look-claims t) (look-at t) look.Post
+  look-looked-requires c =
+      let asks = c .before .pre .1 in
       search (needs, count-fits _ _ _ _ _ asks)
 
   look-element-copy-out-l : look-lts.Need-element-copy-out-l (look-claims t) (look-at t) look.Post
   look-element-copy-out-l c =
-      let asks = c .before .pre .1 in
+      let asks = c .before .before .pre .1 in
       omega (arith, asks .within, asks .based .few)
 
-  look-element-copy-out-off : look-lts.Need-element-copy-out-off (look-claims t) (look-at t) look.Post
-  look-element-copy-out-off c =
-      let asks = c .before .before .pre .1 in
+  look-element-copy-out-expr-of : look-lts.Need-element-copy-out-expr-of (look-claims t) (look-at t) look.Post
+  look-element-copy-out-expr-of c =
+      let asks = c .before .before .before .before .before .pre .1 in
       omega (arith, asks .within, asks .based .few)
 
   look-element-copy-out-entry : look-lts.Need-element-copy-out-entry (look-claims t) (look-at t) look.Post
@@ -143,7 +146,7 @@ module _ (t : ℕ) where
 
   look-expr-of-requires : look-lts.Need-expr-of-requires (look-claims t) (look-at t) look.Post
   look-expr-of-requires c κs =
-      let asks = c .before .before .before .before .before .pre .1 in
+      let asks = c .before .before .before .before .before .before .pre .1 in
       (line-128 _ _ _ _ (asks .based) (asks .formed) (asks .within), line-room _ _ _ _ (asks .based) (asks .formed) (asks .within), line-formed _ _ _ _ (asks .based) (asks .formed) (asks .within))
 
   look-of-requires : look-lts.Need-of-requires (look-claims t) (look-at t) look.Post
@@ -154,16 +157,17 @@ module _ (t : ℕ) where
 
   look-returns : look-lts.Need-returns (look-claims t) (look-at t) look.Post
   look-returns c =
-      let asks = c .before .before .before .before .before .before .before .before .before .before .pre .1 in
+      let asks = c .before .before .before .before .before .before .before .before .before .before .before .pre .1 in
+      let counted = c .before .before .before .before .before .before .before .before .before .looked .ensures in
       let held = c .before .before .before .before .expr-of .ensures in
       let row = c .before .before .before .of .ensures in
       let hit = c .before .if1 .taken in
-      gives-hit _ _ _ _ _ asks _ held _ row _ hit (c .unpacked .ensures)
+      rw counted (gives-hit _ _ _ _ _ asks _ held _ row _ hit (c .unpacked .ensures))
 
   look-is-replaced-requires : look-lts.Need-is-replaced-requires (look-claims t) (look-at t) look.Post
   look-is-replaced-requires c κs =
       let asks = c .before .before .before .before .before .before .before .before .before .before .before .pre .1 in
-      let held = c .before .before .before .before .before .expr-of .ensures in
+      let held = c .before .before .before .before .expr-of .ensures in
       (held .shaped, e-readable _ _ _ _ _ asks _ held)
 
   look-first-child-requires : look-lts.Need-first-child-requires (look-claims t) (look-at t) look.Post
@@ -172,9 +176,9 @@ module _ (t : ℕ) where
   look-cast-c : look-lts.Need-cast-c (look-claims t) (look-at t) look.Post
   look-cast-c c =
       let asks = c .before .before .before .before .before .before .before .before .before .before .before .before .before .before .pre .1 in
-      let held = c .before .before .before .before .before .before .before .before .expr-of .ensures in
-      let row = c .before .before .before .before .before .before .before .of .ensures in
-      let miss = c .before .before .before .before .before .if1 .left in
+      let held = c .before .before .before .before .before .before .before .expr-of .ensures in
+      let row = c .before .before .before .before .before .before .of .ensures in
+      let miss = c .before .before .before .before .if1 .left in
       let test = c .before .before .is-replaced .ensures in
       let gone = c .before .if2 .taken in
       let child = c .first-child .ensures in
@@ -183,9 +187,9 @@ module _ (t : ℕ) where
   look-element-copy-out-l1 : look-lts.Need-element-copy-out-l1 (look-claims t) (look-at t) look.Post
   look-element-copy-out-l1 c =
       let asks = c .before .before .before .before .before .before .before .before .before .before .before .before .before .before .pre .1 in
-      let held = c .before .before .before .before .before .before .before .before .expr-of .ensures in
-      let row = c .before .before .before .before .before .before .before .of .ensures in
-      let miss = c .before .before .before .before .before .if1 .left in
+      let held = c .before .before .before .before .before .before .before .expr-of .ensures in
+      let row = c .before .before .before .before .before .before .of .ensures in
+      let miss = c .before .before .before .before .if1 .left in
       let test = c .before .before .is-replaced .ensures in
       let gone = c .before .if2 .taken in
       let child = c .first-child .ensures in
@@ -194,46 +198,48 @@ module _ (t : ℕ) where
   look-element-copy-out-off1 : look-lts.Need-element-copy-out-off1 (look-claims t) (look-at t) look.Post
   look-element-copy-out-off1 c =
       let asks = c .before .before .before .before .before .before .before .before .before .before .before .before .before .before .before .pre .1 in
-      let held = c .before .before .before .before .before .before .before .before .before .expr-of .ensures in
-      let row = c .before .before .before .before .before .before .before .before .of .ensures in
-      let miss = c .before .before .before .before .before .before .if1 .left in
+      let held = c .before .before .before .before .before .before .before .before .expr-of .ensures in
+      let row = c .before .before .before .before .before .before .before .of .ensures in
+      let miss = c .before .before .before .before .before .if1 .left in
       let test = c .before .before .before .is-replaced .ensures in
       let gone = c .before .before .if2 .taken in
       let child = c .before .first-child .ensures in
       child-128 _ _ _ _ _ asks _ held _ row miss _ test gone _ child
 
-  look-element-write-t : look-lts.Need-element-write-t (look-claims t) (look-at t) look.Post
-  look-element-write-t c =
+  look-element-write-line : look-lts.Need-element-write-line (look-claims t) (look-at t) look.Post
+  look-element-write-line c =
       let asks = c .before .before .before .before .before .before .before .before .before .before .before .before .before .before .before .before .pre .1 in
       omega (arith, asks .within, asks .based .few)
 
-  look-element-write-t-2 : look-lts.Need-element-write-t-2 (look-claims t) (look-at t) look.Post
-  look-element-write-t-2 c =
+  look-element-write-off : look-lts.Need-element-write-off (look-claims t) (look-at t) look.Post
+  look-element-write-off c =
       let asks = c .before .before .before .before .before .before .before .before .before .before .before .before .before .before .before .before .pre .1 in
       omega (arith, asks .within, asks .based .few)
 
   look-look-requires : look-lts.Need-look-requires (look-claims t) (look-at t) look.Post
   look-look-requires c κs =
-      let asks = c .before .before .before .before .before .before .before .before .before .before .before .before .before .before .before .before .pre .1 in
-      let falls = c .before .before .before .before .before .before .before .before .before .before .before .before .before .before .before .before .pre .0 in
-      let held = c .before .before .before .before .before .before .before .before .before .before .expr-of .ensures in
-      let row = c .before .before .before .before .before .before .before .before .before .of .ensures in
-      let miss = c .before .before .before .before .before .before .before .if1 .left in
-      let test = c .before .before .before .before .is-replaced .ensures in
-      let gone = c .before .before .before .if2 .taken in
-      let child = c .before .before .first-child .ensures in
-      (omega (arith, falls, copy-falls _ _ _ _ _ asks _ held _ row miss _ test gone _ child), copy-asks _ _ _ _ _ asks _ held _ row miss _ test gone _ child)
+      let asks = c .before .before .before .before .before .before .before .before .before .before .before .before .before .before .before .before .before .before .before .pre .1 in
+      let counted = c .before .before .before .before .before .before .before .before .before .before .before .before .before .before .before .before .before .looked .ensures in
+      let falls = c .before .before .before .before .before .before .before .before .before .before .before .before .before .before .before .before .before .before .before .pre .0 in
+      let held = c .before .before .before .before .before .before .before .before .before .before .before .before .expr-of .ensures in
+      let row = c .before .before .before .before .before .before .before .before .before .before .before .of .ensures in
+      let miss = c .before .before .before .before .before .before .before .before .before .if1 .left in
+      let test = c .before .before .before .before .before .before .before .is-replaced .ensures in
+      let gone = c .before .before .before .before .before .before .if2 .taken in
+      let child = c .before .before .before .before .before .first-child .ensures in
+      (omega (arith, falls, copy-falls _ _ _ _ _ asks _ held _ row miss _ test gone _ child), rw counted (copy-asks _ _ _ _ _ asks _ held _ row miss _ test gone _ child))
 
   look-returns-2 : look-lts.Need-returns-2 (look-claims t) (look-at t) look.Post
   look-returns-2 c =
-      let asks = c .before .before .before .before .before .before .before .before .before .before .before .before .before .before .before .before .before .pre .1 in
-      let held = c .before .before .before .before .before .before .before .before .before .before .before .expr-of .ensures in
-      let row = c .before .before .before .before .before .before .before .before .before .before .of .ensures in
-      let miss = c .before .before .before .before .before .before .before .before .if1 .left in
-      let test = c .before .before .before .before .before .is-replaced .ensures in
-      let gone = c .before .before .before .before .if2 .taken in
-      let child = c .before .before .before .first-child .ensures in
-      gives-copy _ _ _ _ _ asks _ held _ row miss _ test gone _ child _ (c .look .ensures)
+      let asks = c .before .before .before .before .before .before .before .before .before .before .before .before .before .before .before .before .before .before .before .before .pre .1 in
+      let counted = c .before .before .before .before .before .before .before .before .before .before .before .before .before .before .before .before .before .before .looked .ensures in
+      let held = c .before .before .before .before .before .before .before .before .before .before .before .before .before .expr-of .ensures in
+      let row = c .before .before .before .before .before .before .before .before .before .before .before .before .of .ensures in
+      let miss = c .before .before .before .before .before .before .before .before .before .before .if1 .left in
+      let test = c .before .before .before .before .before .before .before .before .is-replaced .ensures in
+      let gone = c .before .before .before .before .before .before .before .if2 .taken in
+      let child = c .before .before .before .before .before .before .first-child .ensures in
+      gives-copy _ _ _ _ _ asks _ held _ row miss _ test gone _ child _ (rw counted at (c .look .ensures))
 
   look-new-requires : look-lts.Need-new-requires (look-claims t) (look-at t) look.Post
   look-new-requires c κs = tt
@@ -246,103 +252,111 @@ module _ (t : ℕ) where
 
   look-look-ended-requires : look-lts.Need-look-ended-requires (look-claims t) (look-at t) look.Post
   look-look-ended-requires c κs =
-      let asks = c .before .before .before .before .before .before .before .before .before .before .before .before .before .before .before .before .before .before .pre .1 in
-      (omega (arith, asks .within, asks .based .few), kept-counted _ .sized (asks .formed .sized))
+      let asks = c .before .before .before .before .before .before .before .before .before .before .before .before .before .before .before .before .before .before .before .before .pre .1 in
+      (omega (arith, asks .within, asks .based .few), asks .formed .sized .off, asks .formed .sized .cache)
 
   look-returns-3 : look-lts.Need-returns-3 (look-claims t) (look-at t) look.Post
   look-returns-3 c =
-      let asks = c .before .before .before .before .before .before .before .before .before .before .before .before .before .before .before .before .before .before .before .pre .1 in
-      let held = c .before .before .before .before .before .before .before .before .before .before .before .before .before .expr-of .ensures in
-      let row = c .before .before .before .before .before .before .before .before .before .before .before .before .of .ensures in
-      let miss = c .before .before .before .before .before .before .before .before .before .before .if1 .left in
-      let test = c .before .before .before .before .before .before .before .is-replaced .ensures in
-      let stays = c .before .before .before .before .before .before .if2 .left in
-      let unseen = c .before .before .before .before .before .new .ensures in
-      let leaf = c .before .before .before .if3 .taken in
-      gives-leaf _ _ _ _ _ asks _ held _ row miss _ test stays leaf (c .before .before .of2 .result) _ _ (rw unseen at (c .before .before .of2 .ensures)) (rw unseen at (c .before .answer .ensures)) (rw unseen at (c .look-ended .ensures))
+      let asks = c .before .before .before .before .before .before .before .before .before .before .before .before .before .before .before .before .before .before .before .before .before .pre .1 in
+      let counted = c .before .before .before .before .before .before .before .before .before .before .before .before .before .before .before .before .before .before .before .looked .ensures in
+      let held = c .before .before .before .before .before .before .before .before .before .before .before .before .before .before .expr-of .ensures in
+      let row = c .before .before .before .before .before .before .before .before .before .before .before .before .before .of .ensures in
+      let miss = c .before .before .before .before .before .before .before .before .before .before .before .if1 .left in
+      let test = c .before .before .before .before .before .before .before .before .before .is-replaced .ensures in
+      let stays = c .before .before .before .before .before .before .before .before .if2 .left in
+      let unseen = c .before .before .before .before .before .before .before .new .ensures in
+      let leaf = c .before .before .before .before .before .if3 .taken in
+      gives-leaf _ _ _ _ _ asks _ held _ row miss _ test stays leaf (c .before .before .before .before .of2 .result) _ _ (rw unseen at (c .before .before .before .before .of2 .ensures)) (rw unseen at (c .before .before .before .answer .ensures)) (rw (unseen, counted) at (c .look-ended .ensures (c .before .before .before .before .before .before .before .before .before .before .before .before .before .before .before .before .before .before .before .before .before .args .line .now)))
 
   look-look-along-requires : look-lts.Need-look-along-requires (look-claims t) (look-at t) look.Post
   look-look-along-requires c κs =
-      let asks = c .before .before .before .before .before .before .before .before .before .before .before .before .before .before .before .before .pre .1 in
-      let falls = c .before .before .before .before .before .before .before .before .before .before .before .before .before .before .before .before .pre .0 in
-      let held = c .before .before .before .before .before .before .before .before .before .before .expr-of .ensures in
-      let row = c .before .before .before .before .before .before .before .before .before .of .ensures in
-      let miss = c .before .before .before .before .before .before .before .if1 .left in
-      let test = c .before .before .before .before .is-replaced .ensures in
-      let stays = c .before .before .before .if2 .left in
-      let unseen = c .before .before .new .ensures in
-      let more = c .if3 .left in
-      (omega (arith, falls, held .shaped .few, more), rw unseen (along-asks _ _ _ _ _ asks _ held _ row miss _ test stays (omega (arith, more))))
+      let asks = c .before .before .before .before .before .before .before .before .before .before .before .before .before .before .before .before .before .before .before .pre .1 in
+      let counted = c .before .before .before .before .before .before .before .before .before .before .before .before .before .before .before .before .before .looked .ensures in
+      let falls = c .before .before .before .before .before .before .before .before .before .before .before .before .before .before .before .before .before .before .before .pre .0 in
+      let held = c .before .before .before .before .before .before .before .before .before .before .before .before .expr-of .ensures in
+      let row = c .before .before .before .before .before .before .before .before .before .before .before .of .ensures in
+      let miss = c .before .before .before .before .before .before .before .before .before .if1 .left in
+      let test = c .before .before .before .before .before .before .before .is-replaced .ensures in
+      let stays = c .before .before .before .before .before .before .if2 .left in
+      let unseen = c .before .before .before .before .before .new .ensures in
+      let more = c .before .before .before .if3 .left in
+      (omega (arith, falls, held .shaped .few, more), rw (unseen, counted) (along-asks _ _ _ _ _ asks _ held _ row miss _ test stays (omega (arith, more))))
 
   look-of-requires-3 : look-lts.Need-of-requires-3 (look-claims t) (look-at t) look.Post
   look-of-requires-3 c κs = tt
 
   look-cast-node : look-lts.Need-cast-node (look-claims t) (look-at t) look.Post
   look-cast-node c =
-      let asks = c .before .before .before .before .before .before .before .before .before .before .before .before .before .before .before .before .before .before .before .before .before .before .pre .1 in
-      let held = c .before .before .before .before .before .before .before .before .before .before .before .before .before .before .before .before .expr-of .ensures in
-      let row = c .before .before .before .before .before .before .before .before .before .before .before .before .before .before .before .of .ensures in
-      let miss = c .before .before .before .before .before .before .before .before .before .before .before .before .before .if1 .left in
-      let test = c .before .before .before .before .before .before .before .before .before .before .is-replaced .ensures in
-      let stays = c .before .before .before .before .before .before .before .before .before .if2 .left in
-      let unseen = c .before .before .before .before .before .before .before .before .new .ensures in
-      let walk = c .before .before .before .before .before .look-along .ensures in
+      let asks = c .before .before .before .before .before .before .before .before .before .before .before .before .before .before .before .before .before .before .before .before .before .before .before .before .before .before .before .pre .1 in
+      let counted = c .before .before .before .before .before .before .before .before .before .before .before .before .before .before .before .before .before .before .before .before .before .before .before .before .before .looked .ensures in
+      let held = c .before .before .before .before .before .before .before .before .before .before .before .before .before .before .before .before .before .before .before .before .expr-of .ensures in
+      let row = c .before .before .before .before .before .before .before .before .before .before .before .before .before .before .before .before .before .before .before .of .ensures in
+      let miss = c .before .before .before .before .before .before .before .before .before .before .before .before .before .before .before .before .before .if1 .left in
+      let test = c .before .before .before .before .before .before .before .before .before .before .before .before .before .before .before .is-replaced .ensures in
+      let stays = c .before .before .before .before .before .before .before .before .before .before .before .before .before .before .if2 .left in
+      let unseen = c .before .before .before .before .before .before .before .before .before .before .before .before .before .new .ensures in
+      let walk = c .before .before .before .before .before .before .before .look-along .ensures in
       let twice = c .before .if4 .taken in
-      search (needs, again-asks _ _ _ _ _ asks _ held _ row miss _ test stays _ (rw unseen at walk) (c .before .before .of3 .result) (c .before .before .of3 .ensures) twice .look .within, asks .based .few)
+      search (needs, again-asks _ _ _ _ _ asks _ held _ row miss _ test stays _ (rw (unseen, counted) at walk) (c .before .before .of3 .result) (c .before .before .of3 .ensures) twice .look .within, asks .based .few)
 
   look-look-again-requires : look-lts.Need-look-again-requires (look-claims t) (look-at t) look.Post
   look-look-again-requires c κs =
-      let asks = c .before .before .before .before .before .before .before .before .before .before .before .before .before .before .before .before .before .before .before .before .before .before .pre .1 in
-      let falls = c .before .before .before .before .before .before .before .before .before .before .before .before .before .before .before .before .before .before .before .before .before .before .pre .0 in
-      let held = c .before .before .before .before .before .before .before .before .before .before .before .before .before .before .before .before .expr-of .ensures in
-      let row = c .before .before .before .before .before .before .before .before .before .before .before .before .before .before .before .of .ensures in
-      let miss = c .before .before .before .before .before .before .before .before .before .before .before .before .before .if1 .left in
-      let test = c .before .before .before .before .before .before .before .before .before .before .is-replaced .ensures in
-      let stays = c .before .before .before .before .before .before .before .before .before .if2 .left in
-      let unseen = c .before .before .before .before .before .before .before .before .new .ensures in
-      let walk = c .before .before .before .before .before .look-along .ensures in
-      let twice = c .before .if4 .taken in
-      (omega (arith, falls, again-falls _ _ _ _ _ asks _ held _ row miss _ test stays _ (rw unseen at walk) (c .before .before .of3 .result) (c .before .before .of3 .ensures) twice), again-asks _ _ _ _ _ asks _ held _ row miss _ test stays _ (rw unseen at walk) (c .before .before .of3 .result) (c .before .before .of3 .ensures) twice)
+      let asks = c .before .before .before .before .before .before .before .before .before .before .before .before .before .before .before .before .before .before .before .before .before .before .before .before .before .before .before .before .before .before .pre .1 in
+      let counted = c .before .before .before .before .before .before .before .before .before .before .before .before .before .before .before .before .before .before .before .before .before .before .before .before .before .before .before .before .looked .ensures in
+      let falls = c .before .before .before .before .before .before .before .before .before .before .before .before .before .before .before .before .before .before .before .before .before .before .before .before .before .before .before .before .before .before .pre .0 in
+      let held = c .before .before .before .before .before .before .before .before .before .before .before .before .before .before .before .before .before .before .before .before .before .before .before .expr-of .ensures in
+      let row = c .before .before .before .before .before .before .before .before .before .before .before .before .before .before .before .before .before .before .before .before .before .before .of .ensures in
+      let miss = c .before .before .before .before .before .before .before .before .before .before .before .before .before .before .before .before .before .before .before .before .if1 .left in
+      let test = c .before .before .before .before .before .before .before .before .before .before .before .before .before .before .before .before .before .before .is-replaced .ensures in
+      let stays = c .before .before .before .before .before .before .before .before .before .before .before .before .before .before .before .before .before .if2 .left in
+      let unseen = c .before .before .before .before .before .before .before .before .before .before .before .before .before .before .before .before .new .ensures in
+      let walk = c .before .before .before .before .before .before .before .before .before .before .look-along .ensures in
+      let twice = c .before .before .before .before .if4 .taken in
+      (omega (arith, falls, again-falls _ _ _ _ _ asks _ held _ row miss _ test stays _ (rw (unseen, counted) at walk) (c .before .before .before .before .before .of3 .result) (c .before .before .before .before .before .of3 .ensures) twice), again-asks _ _ _ _ _ asks _ held _ row miss _ test stays _ (rw (unseen, counted) at walk) (c .before .before .before .before .before .of3 .result) (c .before .before .before .before .before .of3 .ensures) twice)
 
   look-returns-4 : look-lts.Need-returns-4 (look-claims t) (look-at t) look.Post
   look-returns-4 c =
-      let asks = c .before .before .before .before .before .before .before .before .before .before .before .before .before .before .before .before .before .before .before .before .before .before .before .pre .1 in
-      let held = c .before .before .before .before .before .before .before .before .before .before .before .before .before .before .before .before .before .expr-of .ensures in
-      let row = c .before .before .before .before .before .before .before .before .before .before .before .before .before .before .before .before .of .ensures in
-      let miss = c .before .before .before .before .before .before .before .before .before .before .before .before .before .before .if1 .left in
-      let test = c .before .before .before .before .before .before .before .before .before .before .before .is-replaced .ensures in
-      let stays = c .before .before .before .before .before .before .before .before .before .before .if2 .left in
-      let unseen = c .before .before .before .before .before .before .before .before .before .new .ensures in
-      let walk = c .before .before .before .before .before .before .look-along .ensures in
-      let twice = c .before .before .if4 .taken in
-      gives-again _ _ _ _ _ asks _ held _ row miss _ test stays _ (rw unseen at walk) (c .before .before .before .of3 .result) (c .before .before .before .of3 .ensures) twice _ (c .look-again .ensures)
+      let asks = c .before .before .before .before .before .before .before .before .before .before .before .before .before .before .before .before .before .before .before .before .before .before .before .before .before .before .before .before .before .before .before .pre .1 in
+      let counted = c .before .before .before .before .before .before .before .before .before .before .before .before .before .before .before .before .before .before .before .before .before .before .before .before .before .before .before .before .before .looked .ensures in
+      let held = c .before .before .before .before .before .before .before .before .before .before .before .before .before .before .before .before .before .before .before .before .before .before .before .before .expr-of .ensures in
+      let row = c .before .before .before .before .before .before .before .before .before .before .before .before .before .before .before .before .before .before .before .before .before .before .before .of .ensures in
+      let miss = c .before .before .before .before .before .before .before .before .before .before .before .before .before .before .before .before .before .before .before .before .before .if1 .left in
+      let test = c .before .before .before .before .before .before .before .before .before .before .before .before .before .before .before .before .before .before .before .is-replaced .ensures in
+      let stays = c .before .before .before .before .before .before .before .before .before .before .before .before .before .before .before .before .before .before .if2 .left in
+      let unseen = c .before .before .before .before .before .before .before .before .before .before .before .before .before .before .before .before .before .new .ensures in
+      let walk = c .before .before .before .before .before .before .before .before .before .before .before .look-along .ensures in
+      let twice = c .before .before .before .before .before .if4 .taken in
+      gives-again _ _ _ _ _ asks _ held _ row miss _ test stays _ (rw (unseen, counted) at walk) (c .before .before .before .before .before .before .of3 .result) (c .before .before .before .before .before .before .of3 .ensures) twice _ (c .look-again .ensures)
 
   look-answer-requires-2 : look-lts.Need-answer-requires-2 (look-claims t) (look-at t) look.Post
   look-answer-requires-2 c κs = tt
 
   look-look-ended-requires-2 : look-lts.Need-look-ended-requires-2 (look-claims t) (look-at t) look.Post
   look-look-ended-requires-2 c κs =
-      let asks = c .before .before .before .before .before .before .before .before .before .before .before .before .before .before .before .before .before .before .before .before .before .before .pre .1 in
-      let walk = c .before .before .before .before .before .look-along .ensures in
-      (omega (arith, asks .within, asks .based .few), walk .kept .sized (kept-counted _ .sized (asks .formed .sized)))
+      let asks = c .before .before .before .before .before .before .before .before .before .before .before .before .before .before .before .before .before .before .before .before .before .before .before .before .before .before .before .before .before .pre .1 in
+      let counted = c .before .before .before .before .before .before .before .before .before .before .before .before .before .before .before .before .before .before .before .before .before .before .before .before .before .before .before .looked .ensures in
+      let walk = c .before .before .before .before .before .before .before .before .before .look-along .ensures in
+      let sized = (rw counted at walk) .kept .sized (kept-counted _ .sized (asks .formed .sized)) in
+      (omega (arith, asks .within, asks .based .few), sized .off, sized .cache)
 
   look-returns-5 : look-lts.Need-returns-5 (look-claims t) (look-at t) look.Post
   look-returns-5 c =
-      let asks = c .before .before .before .before .before .before .before .before .before .before .before .before .before .before .before .before .before .before .before .before .before .before .before .pre .1 in
-      let held = c .before .before .before .before .before .before .before .before .before .before .before .before .before .before .before .before .before .expr-of .ensures in
-      let row = c .before .before .before .before .before .before .before .before .before .before .before .before .before .before .before .before .of .ensures in
-      let miss = c .before .before .before .before .before .before .before .before .before .before .before .before .before .before .if1 .left in
-      let test = c .before .before .before .before .before .before .before .before .before .before .before .is-replaced .ensures in
-      let stays = c .before .before .before .before .before .before .before .before .before .before .if2 .left in
-      let unseen = c .before .before .before .before .before .before .before .before .before .new .ensures in
-      let walk = c .before .before .before .before .before .before .look-along .ensures in
-      let once = c .before .before .if4 .left in
-      gives-done _ _ _ _ _ asks _ held _ row miss _ test stays _ (rw unseen at walk) (c .before .before .before .of3 .result) (c .before .before .before .of3 .ensures) once _ _ (c .before .answer2 .ensures) (c .look-ended2 .ensures)
+      let asks = c .before .before .before .before .before .before .before .before .before .before .before .before .before .before .before .before .before .before .before .before .before .before .before .before .before .before .before .before .before .before .pre .1 in
+      let counted = c .before .before .before .before .before .before .before .before .before .before .before .before .before .before .before .before .before .before .before .before .before .before .before .before .before .before .before .before .looked .ensures in
+      let held = c .before .before .before .before .before .before .before .before .before .before .before .before .before .before .before .before .before .before .before .before .before .before .before .expr-of .ensures in
+      let row = c .before .before .before .before .before .before .before .before .before .before .before .before .before .before .before .before .before .before .before .before .before .before .of .ensures in
+      let miss = c .before .before .before .before .before .before .before .before .before .before .before .before .before .before .before .before .before .before .before .before .if1 .left in
+      let test = c .before .before .before .before .before .before .before .before .before .before .before .before .before .before .before .before .before .before .is-replaced .ensures in
+      let stays = c .before .before .before .before .before .before .before .before .before .before .before .before .before .before .before .before .before .if2 .left in
+      let unseen = c .before .before .before .before .before .before .before .before .before .before .before .before .before .before .before .before .new .ensures in
+      let walk = c .before .before .before .before .before .before .before .before .before .before .look-along .ensures in
+      let once = c .before .before .before .before .if4 .left in
+      gives-done _ _ _ _ _ asks _ held _ row miss _ test stays _ (rw (unseen, counted) at walk) (c .before .before .before .before .before .of3 .result) (c .before .before .before .before .before .of3 .ensures) once _ _ (c .before .before .before .answer2 .ensures) (c .look-ended2 .ensures _)
 
   look-again-look-requires : look-again-lts.Need-look-requires (look-again-claims t) (look-again-at t) look-again.Post
   look-again-look-requires c κs =
-      let asks = c .pre .1 in
-      let falls = c .pre .0 in
+      let asks = c .before .before .before .pre .1 in
+      let falls = c .before .before .before .pre .0 in
       (omega (arith, falls), asks .look)
 
   look-again-answer-requires : look-again-lts.Need-answer-requires (look-again-claims t) (look-again-at t) look-again.Post
@@ -350,15 +364,16 @@ module _ (t : ℕ) where
 
   look-again-look-ended-requires : look-again-lts.Need-look-ended-requires (look-again-claims t) (look-again-at t) look-again.Post
   look-again-look-ended-requires c κs =
-      let asks = c .before .before .pre .1 in
-      let looked = c .before .look .ensures in
-      (omega (arith, asks .within, asks .look .based .few), looked .kept .sized (asks .look .formed .sized))
+      let asks = c .before .before .before .before .before .before .before .pre .1 in
+      let looked = c .before .before .before .look .ensures in
+      let sized = looked .kept .sized (asks .look .formed .sized) in
+      (omega (arith, asks .within, asks .look .based .few), sized .off, sized .cache)
 
   look-again-returns : look-again-lts.Need-returns (look-again-claims t) (look-again-at t) look-again.Post
   look-again-returns c =
-      let asks = c .before .before .before .pre .1 in
-      let looked = c .before .before .look .ensures in
-      gives-twice _ _ _ _ _ asks _ (after-of (c .before .before .before .args .v)) _ _ _ _ _ looked (c .before .answer .ensures) (c .look-ended .ensures)
+      let asks = c .before .before .before .before .before .before .before .before .pre .1 in
+      let looked = c .before .before .before .before .look .ensures in
+      gives-twice _ _ _ _ _ asks _ (after-of (c .before .before .before .before .before .before .before .before .args .v)) _ _ _ _ _ looked (c .before .answer .ensures) (c .look-ended .ensures _)
 
   look-along-child-of-requires : look-along-lts.Need-child-of-requires (look-along-claims t) (look-along-at t) look-along.Post
   look-along-child-of-requires c κs =
@@ -373,16 +388,16 @@ module _ (t : ℕ) where
 
   look-along-look-requires : look-along-lts.Need-look-requires (look-along-claims t) (look-along-at t) look-along.Post
   look-along-look-requires c κs =
-      let asks = c .before .before .pre .1 in
-      let falls = c .before .before .pre .0 in
-      let slot = c .before .child-of .ensures in
+      let asks = c .before .before .before .before .before .pre .1 in
+      let falls = c .before .before .before .before .before .pre .0 in
+      let slot = c .before .before .before .before .child-of .ensures in
       let mode = c .mode .ensures in
       (omega (arith, falls, asks .more, child-falls _ _ _ _ _ _ _ _ asks _ _ slot mode), child-asks _ _ _ _ _ _ _ _ asks _ _ slot mode)
 
   look-along-add-requires : look-along-lts.Need-add-requires (look-along-claims t) (look-along-at t) look-along.Post
   look-along-add-requires c κs =
-      let asks = c .before .before .before .before .pre .1 in
-      let slot = c .before .before .before .child-of .ensures in
+      let asks = c .before .before .before .before .before .before .before .pre .1 in
+      let slot = c .before .before .before .before .before .before .child-of .ensures in
       let mode = c .before .before .mode .ensures in
       few-seen _ _ _ _ _ _ _ _ asks _ _ slot mode
 
@@ -391,13 +406,13 @@ module _ (t : ℕ) where
 
   look-along-add-if1 : look-along-lts.Need-add-if1 (look-along-claims t) (look-along-at t) look-along.Post
   look-along-add-if1 c =
-      let asks = c .before .before .before .before .before .before .before .pre .1 in
+      let asks = c .before .before .before .before .before .before .before .before .before .before .pre .1 in
       search (needs, asks .more, asks .shaped .few)
 
   look-along-returns : look-along-lts.Need-returns (look-along-claims t) (look-along-at t) look-along.Post
   look-along-returns c =
-      let asks = c .before .before .before .before .before .before .before .before .before .pre .1 in
-      let slot = c .before .before .before .before .before .before .before .before .child-of .ensures in
+      let asks = c .before .before .before .before .before .before .before .before .before .before .before .before .pre .1 in
+      let slot = c .before .before .before .before .before .before .before .before .before .before .before .child-of .ensures in
       let mode = c .before .before .before .before .before .before .before .mode .ensures in
       let looked = c .before .before .before .before .before .before .look .ensures in
       let added = c .before .before .before .before .add .ensures in
@@ -407,40 +422,40 @@ module _ (t : ℕ) where
 
   look-along-add-look-along : look-along-lts.Need-add-look-along (look-along-claims t) (look-along-at t) look-along.Post
   look-along-add-look-along c =
-      let asks = c .before .before .before .before .before .before .before .before .before .pre .1 in
+      let asks = c .before .before .before .before .before .before .before .before .before .before .before .before .before .before .before .pre .1 in
       search (needs, asks .more, asks .shaped .few)
 
   look-along-look-along-requires : look-along-lts.Need-look-along-requires (look-along-claims t) (look-along-at t) look-along.Post
   look-along-look-along-requires c κs =
-      let asks = c .before .before .before .before .before .before .before .before .before .pre .1 in
-      let falls = c .before .before .before .before .before .before .before .before .before .pre .0 in
-      let slot = c .before .before .before .before .before .before .before .before .child-of .ensures in
-      let mode = c .before .before .before .before .before .before .before .mode .ensures in
-      let looked = c .before .before .before .before .before .before .look .ensures in
-      let added = c .before .before .before .before .add .ensures in
-      let entered = c .before .before .enter-struct .ensures in
-      let rest = c .if1 .left in
+      let asks = c .before .before .before .before .before .before .before .before .before .before .before .before .before .before .before .pre .1 in
+      let falls = c .before .before .before .before .before .before .before .before .before .before .before .before .before .before .before .pre .0 in
+      let slot = c .before .before .before .before .before .before .before .before .before .before .before .before .before .before .child-of .ensures in
+      let mode = c .before .before .before .before .before .before .before .before .before .before .mode .ensures in
+      let looked = c .before .before .before .before .before .before .before .before .before .look .ensures in
+      let added = c .before .before .before .before .before .before .before .add .ensures in
+      let entered = c .before .before .before .before .before .enter-struct .ensures in
+      let rest = c .before .before .before .if1 .left in
       (omega (arith, falls, asks .more), rest-asks _ _ _ _ _ _ _ _ asks _ _ slot mode _ looked _ added _ entered (omega (arith, asks .more, rest)))
 
   look-along-returns-2 : look-along-lts.Need-returns-2 (look-along-claims t) (look-along-at t) look-along.Post
   look-along-returns-2 c =
-      let asks = c .before .before .before .before .before .before .before .before .before .before .pre .1 in
-      let slot = c .before .before .before .before .before .before .before .before .before .child-of .ensures in
-      let mode = c .before .before .before .before .before .before .before .before .mode .ensures in
-      let looked = c .before .before .before .before .before .before .before .look .ensures in
-      let added = c .before .before .before .before .before .add .ensures in
-      let entered = c .before .before .before .enter-struct .ensures in
-      let rest = c .before .if1 .left in
+      let asks = c .before .before .before .before .before .before .before .before .before .before .before .before .before .before .before .before .pre .1 in
+      let slot = c .before .before .before .before .before .before .before .before .before .before .before .before .before .before .before .child-of .ensures in
+      let mode = c .before .before .before .before .before .before .before .before .before .before .before .mode .ensures in
+      let looked = c .before .before .before .before .before .before .before .before .before .before .look .ensures in
+      let added = c .before .before .before .before .before .before .before .before .add .ensures in
+      let entered = c .before .before .before .before .before .before .enter-struct .ensures in
+      let rest = c .before .before .before .before .if1 .left in
       gives-more _ _ _ _ _ _ _ _ asks _ _ slot mode _ looked _ added _ entered (omega (arith, asks .more, rest)) _ (c .look-along .ensures)
 
 pub +look+look-again+look-along-spec : {M : Type 1} → statement M
 +look+look-again+look-along-spec = close μ-look μ-look-again μ-look-along (λ t. look-lts.spec (look-claims t)
     (look-at t)
     look.Post
-    (look-add-t t)
+    (look-looked-requires t)
     (look-element-copy-out-l t)
-    (look-element-copy-out-off t)
     (look-element-copy-out-entry t)
+    (look-element-copy-out-expr-of t)
     (look-expr-of-requires t)
     (look-of-requires t)
     (look-unpacked-requires t)
@@ -450,8 +465,8 @@ pub +look+look-again+look-along-spec : {M : Type 1} → statement M
     (look-cast-c t)
     (look-element-copy-out-l1 t)
     (look-element-copy-out-off1 t)
-    (look-element-write-t t)
-    (look-element-write-t-2 t)
+    (look-element-write-line t)
+    (look-element-write-off t)
     (look-look-requires t)
     (look-returns-2 t)
     (look-new-requires t)

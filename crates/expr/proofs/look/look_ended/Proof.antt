@@ -1,3 +1,4 @@
+use Rattle.expr.specs.State.{state}
 use Rattle.expr.proofs.States.{ended}
 use borrow.Author.Needs.{needs}
 use Rattle.expr.proofs.look.look_ended.Statement.{statement}
@@ -15,8 +16,8 @@ union-requires c κs = search needs
 loses-order-requires : tie.Need-loses-order-requires
 loses-order-requires c κs = search needs
 
-element-write-t : tie.Need-element-write-t
-element-write-t c = search needs
+element-write-off : tie.Need-element-write-off
+element-write-off c = search needs
 
 packed-requires : tie.Need-packed-requires
 packed-requires c κs = search needs
@@ -24,14 +25,14 @@ packed-requires c κs = search needs
 pick-byte-requires : tie.Need-pick-byte-requires
 pick-byte-requires c κs = search needs
 
-element-write-t-2 : tie.Need-element-write-t-2
-element-write-t-2 c = search needs
+element-write-cache : tie.Need-element-write-cache
+element-write-cache c = search needs
 
 returns : tie.Need-returns
 returns c =
     let s0 = c .before .before .before .before .before .before .before .before in
     let a = s0 .args in
-    ended (a .s) (a .p) (a .e) (a .v) (a .o) (a .field) (a .first) (s0 .pre .0) (s0 .pre .1) _ _ _ _ (c .before .before .loses-order .ensures) (c .before .before .before .union .ensures) (c .before .packed .ensures) (c .pick-byte .ensures)
+    λ line. ended (state line (a .off .now) (a .cache .now) (a .s)) (a .p) (a .e) (a .v) (a .o) (a .field) (a .first) (s0 .pre .0) (s0 .pre .1) (s0 .pre .2) _ _ _ _ (c .before .before .loses-order .ensures) (c .before .before .before .union .ensures) (c .before .packed .ensures) (c .pick-byte .ensures)
 
 pub look-ended-spec : {M : Type 1} → statement M
 look-ended-spec =
@@ -41,8 +42,8 @@ look-ended-spec =
     element-copy-out-entry
     union-requires
     loses-order-requires
-    element-write-t
+    element-write-off
     packed-requires
     pick-byte-requires
-    element-write-t-2
+    element-write-cache
     returns)

@@ -3,7 +3,7 @@ use Rattle.expr.proofs.projected.expr_order_simplifier.Statement.{state
 use Rattle.expr.proofs.projected.expr_order_simplifier.Tie as tie
 
 returns : tie.Need-returns
-returns c = started (c .args .line) (c .args .off) (c .args .tally)
+returns c = λ line off. started line off (c .before .args .tally)
 
 pub expr-order-simplifier-spec : {M : Type 1} → statement M
 expr-order-simplifier-spec = tie.close (tie.spec returns)

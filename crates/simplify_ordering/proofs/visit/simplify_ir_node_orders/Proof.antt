@@ -1,25 +1,16 @@
 use Rattle.simplify_ordering.proofs.VisitLaws.{tests-read, goes-is, goes-on, goes-away, here-is, edges-held, unlinkable, settle-asked}
 use Rattle.simplify_ordering.specs.Run.{run-of}
 use Rattle.node_rules.specs.Held.{held-edges}
-use Rattle.plan.specs.Visit.{Around}
 use Rattle.plan.specs.Stored.{arena-of, stored-steps}
-use Rattle.plan.specs.Sheet.{step-at}
 use lib.Dec.{T}
 use mathlib.Core.List.{[]}
-use mathlib.Core.Path.{_≡_, sym, _∙_, ap, refl, subst}
+use mathlib.Core.Path.{sym, _∙_, ap, subst}
 use native.Mathlib.Omega.{arith}
 use denote.Ref.{now}
 use borrow.Author.Needs.{needs}
 use Rattle.simplify_ordering.proofs.visit.simplify_ir_node_orders.Statement.{statement}
 use Rattle.simplify_ordering.proofs.visit.simplify_ir_node_orders.Tie as tie
-use Rattle.simplify_ordering.proofs.visit.simplify_ir_node_orders.Reads as reads
-use Rattle.simplify_ordering.proofs.visit.simplify_ir_node_orders.Lts as lts
-use Rattle.node_rules.proofs.around.around_step.Reads as around-step-reads
-use Rattle.node_rules.proofs.steps.options_of.Reads as options-of-reads
-use Rattle.node_rules.proofs.unlink.unlink_node.Reads as unlink-node-reads
-use Rattle.simplify_ordering.proofs.visit.goes.Reads as goes-reads
-use Rattle.simplify_ordering.proofs.visit.one_visit.Reads as one-visit-reads
-use Rattle.simplify_ordering.proofs.visit.settle.Reads as settle-reads
+use Rattle.tally.specs.declared.Tally.{Tally}
 
 -- src/visit.rt:161:9
 options-of-requires : tie.Need-options-of-requires
@@ -34,8 +25,8 @@ around-step-requires c κs =
     (c .before .before .before .before .pre .0 .few, omega (arith, c .before .before .before .before .pre .0 .steps-held .few, here-is (now (a .recs)) (now (a .line)) (now (a .off)) (a .exprs) (now (a .steps)) (a .n-steps) (now (a .consumer)) (now (a .slot)) (now (a .producer)) (now (a .unordered)) (a .edges) (a .tally) (c .before .before .before .before .pre .0) (a .n) (c .before .before .before .before .pre .1)))
 
 -- src/visit.rt:163:9
-one-visit-requires : tie.Need-one-visit-requires
-one-visit-requires c κs = search needs
+visited-requires : tie.Need-visited-requires
+visited-requires c κs = search needs
 
 -- src/visit.rt:164:8
 goes-requires : tie.Need-goes-requires
@@ -59,7 +50,7 @@ returns c =
     let ds = held-edges (now (a .consumer)) (now (a .slot)) (now (a .producer)) (now (a .unordered)) (a .edges) in
     let es = arena-of (now (a .recs)) (now (a .line)) (now (a .off)) (a .exprs) in
     let tests = tests-read ps ds (a .n) (c .before .before .before .before .before .before .before .before .before .before .options-of .result) (c .before .before .before .before .before .before .before .around-step .result) (c .before .before .before .before .before .before .before .before .before .before .options-of .ensures) (c .before .before .before .before .before .before .before .around-step .ensures) (c .before .before .before .before .before .goes .result) (c .before .before .before .before .before .goes .ensures) in (
-      (λ back removed. goes-away es ps ds (a .n) (a .tally .visits) (a .tally .looks) (c .before .before .before .before .before .goes .result) tests back removed _ _ (c .before .before .before .before .before .before .one-visit .ensures .0) (c .before .before .before .before .before .before .one-visit .ensures .1) (c .before .before .before .before .if1 .taken) _ _ (c .unlink-node .ensures .0)),
+      (λ back removed. goes-away es ps ds (a .n) (a .tally .visits) (a .tally .looks) (c .before .before .before .before .before .goes .result) tests back removed _ _ (ap (λ (x : Tally). x .visits) (c .before .before .before .before .before .before .visited .ensures)) (ap (λ (x : Tally). x .looks) (c .before .before .before .before .before .before .visited .ensures)) (c .before .before .before .before .if1 .taken) _ _ (c .unlink-node .ensures .0)),
       record { arena = c .before .before .before .before .before .before .before .before .before .before .before .before .pre .0 .arena; steps-held = c .unlink-node .ensures .1 .0; few = c .before .before .before .before .before .before .before .before .before .before .before .before .pre .0 .few; producers = c .unlink-node .ensures .1 .1 .0; marks = c .unlink-node .ensures .1 .1 .1 },
     )
 
@@ -68,8 +59,8 @@ settle-requires : tie.Need-settle-requires
 settle-requires c κs =
     let a = c .before .before .before .before .before .before .before .before .before .before .before .before .before .before .args in
     let r = run-of (now (a .recs)) (now (a .line)) (now (a .off)) (a .exprs) (now (a .steps)) (a .n-steps) (now (a .consumer)) (now (a .slot)) (now (a .producer)) (now (a .unordered)) (a .edges) [] [] (a .tally) in
-    let r′ = run-of (now (a .recs)) (now (a .line)) (now (a .off)) (a .exprs) (now (a .steps)) (a .n-steps) (now (a .consumer)) (now (a .slot)) (now (a .producer)) (now (a .unordered)) (a .edges) [] [] (c .before .before .before .before .before .before .before .before .one-visit .result) in
-    ((c .before .before .before .before .before .before .before .before .before .before .before .before .before .before .pre .0, here-is (now (a .recs)) (now (a .line)) (now (a .off)) (a .exprs) (now (a .steps)) (a .n-steps) (now (a .consumer)) (now (a .slot)) (now (a .producer)) (now (a .unordered)) (a .edges) (a .tally) (c .before .before .before .before .before .before .before .before .before .before .before .before .before .before .pre .0) (a .n) (c .before .before .before .before .before .before .before .before .before .before .before .before .before .before .pre .1)), ((c .before .before .before .before .before .before .before .before .before .before .before .before .options-of .ensures, c .before .before .before .before .before .before .before .before .before .around-step .ensures), settle-asked (a .n) r r′ (c .before .before .before .before .before .before .before .before .before .before .before .before .before .before .pre .1) (rw (c .before .before .before .before .before .before .before .before .one-visit .ensures .0, c .before .before .before .before .before .before .before .before .one-visit .ensures .1))))
+    let r′ = run-of (now (a .recs)) (now (a .line)) (now (a .off)) (a .exprs) (now (a .steps)) (a .n-steps) (now (a .consumer)) (now (a .slot)) (now (a .producer)) (now (a .unordered)) (a .edges) [] [] (c .before .before .before .before .before .before .before .before .visited .result) in
+    ((c .before .before .before .before .before .before .before .before .before .before .before .before .before .before .pre .0, here-is (now (a .recs)) (now (a .line)) (now (a .off)) (a .exprs) (now (a .steps)) (a .n-steps) (now (a .consumer)) (now (a .slot)) (now (a .producer)) (now (a .unordered)) (a .edges) (a .tally) (c .before .before .before .before .before .before .before .before .before .before .before .before .before .before .pre .0) (a .n) (c .before .before .before .before .before .before .before .before .before .before .before .before .before .before .pre .1)), ((c .before .before .before .before .before .before .before .before .before .before .before .before .options-of .ensures, c .before .before .before .before .before .before .before .before .before .around-step .ensures), settle-asked (a .n) r r′ (c .before .before .before .before .before .before .before .before .before .before .before .before .before .before .pre .1) (rw (c .before .before .before .before .before .before .before .before .visited .ensures))))
 
 -- src/visit.rt:140:1
 returns-2 : tie.Need-returns-2
@@ -79,7 +70,7 @@ returns-2 c =
     let ds = held-edges (now (a .consumer)) (now (a .slot)) (now (a .producer)) (now (a .unordered)) (a .edges) in
     let es = arena-of (now (a .recs)) (now (a .line)) (now (a .off)) (a .exprs) in
     let tests = tests-read ps ds (a .n) (c .before .before .before .before .before .before .before .before .before .before .before .before .before .options-of .result) (c .before .before .before .before .before .before .before .before .before .before .around-step .result) (c .before .before .before .before .before .before .before .before .before .before .before .before .before .options-of .ensures) (c .before .before .before .before .before .before .before .before .before .before .around-step .ensures) (c .before .before .before .before .before .before .before .before .goes .result) (c .before .before .before .before .before .before .before .before .goes .ensures) in (
-      (λ back removed. goes-on es ps ds (a .n) (a .tally .visits) (a .tally .looks) (c .before .before .before .before .before .before .before .before .goes .result) tests back removed _ _ (c .before .before .before .before .before .before .before .before .before .one-visit .ensures .0) (c .before .before .before .before .before .before .before .before .before .one-visit .ensures .1) (c .before .before .before .before .before .before .before .if1 .left) ∙ c .settle .ensures .0 back removed),
+      (λ back removed. goes-on es ps ds (a .n) (a .tally .visits) (a .tally .looks) (c .before .before .before .before .before .before .before .before .goes .result) tests back removed _ _ (ap (λ (x : Tally). x .visits) (c .before .before .before .before .before .before .before .before .before .visited .ensures)) (ap (λ (x : Tally). x .looks) (c .before .before .before .before .before .before .before .before .before .visited .ensures)) (c .before .before .before .before .before .before .before .if1 .left) ∙ c .settle .ensures .0 back removed),
       c .settle .ensures .1,
     )
 
@@ -89,7 +80,7 @@ simplify-ir-node-orders-spec =
     (tie.spec
     options-of-requires
     around-step-requires
-    one-visit-requires
+    visited-requires
     goes-requires
     unlink-node-requires
     returns

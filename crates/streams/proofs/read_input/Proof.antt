@@ -4,8 +4,8 @@ use borrow.Author.Needs.{needs}
 use mathlib.Core.Path.{_≡_}
 use Prim.Native.Nat.{_≤_, _-_}
 use lib.ListN.{length}
-use Rattle.mark.proofs.read_input.Statement.{statement}
-use Rattle.mark.proofs.read_input.Tie as tie
+use Rattle.streams.proofs.read_input.Statement.{statement}
+use Rattle.streams.proofs.read_input.Tie as tie
 
 abbrev Inv-loop : tie.InvT-loop
 Inv-loop fd buf₀ done₀ buf done = (done ≤ length buf) × (length buf ≡ length buf₀)

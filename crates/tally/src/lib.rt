@@ -1,0 +1,49 @@
+// The tally of a run: how many visits and looks were made. It is lent to two counters, the only places that add to it.
+ghost use mathlib.Core.Path.{_≡_};
+ghost use Prim.Native.Nat.{_+_, _<_, _^_};
+ghost use Rattle.tally.specs.Count.{visit-more, look-more};
+
+pub struct Tally {
+    pub visits: u64,
+    pub looks: u64,
+}
+
+fn one_more(n: u64) -> u64
+    requires { ⌜ n + 1 < 2 ^ 64 ⌝ }
+    ensures { λ r. ⌜ r ≡ n + 1 ⌝ }
+{
+    n + 1
+}
+
+pub fn count_visit(t: &mut Tally)
+    requires { ⌜ now t .visits + 1 < 2 ^ 64 ⌝ }
+    ensures { λ _. ⌜ now (t .exit) ≡ visit-more (now (t .entry)) ⌝ }
+{
+    t.visits = one_more(t.visits);
+}
+
+pub fn count_look(t: &mut Tally)
+    requires { ⌜ now t .looks + 1 < 2 ^ 64 ⌝ }
+    ensures { λ _. ⌜ now (t .exit) ≡ look-more (now (t .entry)) ⌝ }
+{
+    t.looks = one_more(t.looks);
+}
+
+// The counters for a caller that holds the tally by value.
+pub fn visited(t: Tally) -> Tally
+    requires { ⌜ t .visits + 1 < 2 ^ 64 ⌝ }
+    ensures { λ r. ⌜ r ≡ visit-more t ⌝ }
+{
+    let mut u = t;
+    count_visit(&mut u);
+    u
+}
+
+pub fn looked(t: Tally) -> Tally
+    requires { ⌜ t .looks + 1 < 2 ^ 64 ⌝ }
+    ensures { λ r. ⌜ r ≡ look-more t ⌝ }
+{
+    let mut u = t;
+    count_look(&mut u);
+    u
+}
