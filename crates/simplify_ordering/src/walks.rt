@@ -4,9 +4,11 @@ ghost use mathlib.Core.List.{List, []};
 ghost use Prim.Native.Nat.{ℕ, _+_, _-_, _≤_, _<_};
 ghost use lib.ListN.{length, take, drop};
 ghost use Rattle.claims.specs.Visitable.{Visitable};
+ghost use Rattle.plan.specs.Visit.{Run, simplify-ir-node-orders};
 ghost use Rattle.plan.specs.Walks.{simplify-and-fetch-orderings};
-ghost use Rattle.simplify_ordering.specs.Run.{run-of, Run-held};
+ghost use Rattle.simplify_ordering.specs.Run.{run-of, Run-held, visited-of};
 ghost use Rattle.simplify_ordering.specs.Walks.{Placed, Walk-asks, Walk-gives, sheet-of, Fetch-asks, Down-gives, Answers, Orderings-are, Orderings-held};
+use crate::visit::Visit;
 use crate::visit::Visited;
 use crate::visit::simplify_ir_node_orders;
 use plan::sizes::size_288;
@@ -36,7 +38,44 @@ pub enum Orderings {
     Refused(u8),
 }
 
-// What a visit to n leaves of a walk: a settled step is stored as a place to go back along, a removed sort is counted.
+// What the visit v to n leaves of a walk: a settled step is stored as a place to go back along, a removed sort is counted.
+fn place(back: &mut [u8; 288], n: u8, w: Walked, v: Visit) -> Walked
+    requires { ⌜ (1 ≤ w .at) × (w .at ≤ 288) × (length (now back) ≡ 288) × (w .removed < 18446744073709551615) ⌝ }
+    ensures { λ r. ⌜ ((before after : List ℕ → List ℕ → Run) → ((b d : List ℕ) → simplify-ir-node-orders n (before b d) ≡ visited-of (v .visited) n after b d) → Placed n before after w (now (back .entry)) r (now (back .exit))) ⌝ }
+    ensures { λ r. ⌜ (r .exprs ≡ v .exprs) × (r .tally ≡ v .tally) ⌝ }
+{
+    let tally = v.tally;
+    let visited = v.visited;
+    match visited {
+        Visited::Settled => {
+            let at = w.at - 1;
+            back[at] = n;
+            Walked {
+                refused: 0,
+                at: at,
+                removed: w.removed,
+                exprs: v.exprs,
+                tally: tally,
+            }
+        }
+        Visited::Removed => Walked {
+            refused: 0,
+            at: w.at,
+            removed: w.removed + 1,
+            exprs: v.exprs,
+            tally: tally,
+        },
+        Visited::Refused(k) => Walked {
+            refused: k,
+            at: w.at,
+            removed: w.removed,
+            exprs: v.exprs,
+            tally: tally,
+        },
+    }
+}
+
+// A visit to n, and what it leaves of a walk.
 fn visit_place(
     recs: &mut [u8; 2048],
     line: &mut [u8; 128],
@@ -73,35 +112,7 @@ fn visit_place(
         n,
         w.tally,
     );
-    let tally = v.tally;
-    let visited = v.visited;
-    match visited {
-        Visited::Settled => {
-            let at = w.at - 1;
-            back[at] = n;
-            Walked {
-                refused: 0,
-                at: at,
-                removed: w.removed,
-                exprs: v.exprs,
-                tally: tally,
-            }
-        }
-        Visited::Removed => Walked {
-            refused: 0,
-            at: w.at,
-            removed: w.removed + 1,
-            exprs: v.exprs,
-            tally: tally,
-        },
-        Visited::Refused(k) => Walked {
-            refused: k,
-            at: w.at,
-            removed: w.removed,
-            exprs: v.exprs,
-            tally: tally,
-        },
-    }
+    place(back, n, w, v)
 }
 
 // Along the places of `list` from `from` up to `to`, until one is refused.
