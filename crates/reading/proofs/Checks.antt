@@ -37,7 +37,7 @@ unfolding in-expr-table row
 in-row e k h = rw (in-expr-table, h)
 
 -- of tests joined from the left
-first-holds : (a b c : Bool) → (a && b && c) ≡ true → a ≡ true
+pub first-holds : (a b c : Bool) → (a && b && c) ≡ true → a ≡ true
 first-holds true b c h = refl
 first-holds false b c h = h
 

@@ -1,6 +1,6 @@
 -- The plan of a sheet.
 use mathlib.Core.Path.{_≡_, refl, sym, ap, _∙_, subst}
-use mathlib.Core.Bool.{Bool, true, false, _&&_}
+use mathlib.Core.Bool.{Bool, true, false}
 use mathlib.Core.List.{List}
 use Prim.Native.Nat.{ℕ, _<_, _≤_}
 use native.Mathlib.Omega.{arith}
@@ -18,7 +18,7 @@ use Rattle.reading.specs.declared.lines.Tally.{Tally}
 use Rattle.reading.specs.declared.lines.Lines.{Lines}
 use Rattle.reading.specs.declared.Plan.{Plan}
 use Rattle.reading.specs.declared.Plan.the-variants.{Taken, Refused}
-use Rattle.reading.proofs.Checks.{no-steps, some-steps}
+use Rattle.reading.proofs.Checks.{first-holds, no-steps, some-steps}
 
 -- What comes after the last line ---------------------------------------------------------------------------------------------
 
@@ -46,11 +46,7 @@ module _ (es ps : List ℕ) (n m : ℕ) where
 
       pub children-early : all? children-earlier (numbered 0 (stored-exprs es n)) ≡ true
       unfolding references-right
-      children-early = first (all? children-earlier (numbered 0 (stored-exprs es n))) _ _ (sym e ∙ f)
-        where
-          first : (a b c : Bool) → (a && b && c) ≡ true → a ≡ true
-          first true b c e = refl
-          first false b c e = e
+      children-early = first-holds (all? children-earlier (numbered 0 (stored-exprs es n))) _ _ (sym e ∙ f)
 
       module _ {b : Bool} (g : b ≡ uses-right sh) (k : b ≡ true) where
         pub bad-field : {c : Bool} → c ≡ fields-right (stored-exprs es n) → c ≡ false → checked-plan sh ≡ refused 9
