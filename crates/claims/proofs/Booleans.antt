@@ -1,22 +1,15 @@
 -- Tests, and tests of every entry of a list.
-use mathlib.Core.Path.{_≡_, refl, sym, subst}
-use mathlib.Core.Logic.{inl, inr, _≢_}
+use mathlib.Core.Path.{_≡_, refl, subst}
+use mathlib.Core.Logic.{_≢_}
 use Prim.Native.Nat.{ℕ, zero, suc, _+_, _<_}
 use native.Mathlib.Omega.{arith}
 use native.Mathlib.Nat.{not-suc-le-zero}
 use mathlib.Core.Bool.{Bool, true, false, _&&_}
-use mathlib.Core.List.{List, [], _∷_, _++_, List·Memᴰ, List·Memᴰ·not-nil, List·Memᴰ·cases-cons}
+use mathlib.Core.List.{List, [], _∷_, _++_}
 use lib.Dec.{T, eqb, eqb→eq, eqb-refl}
 use lib.ListN.{length, getD}
 use Rattle.plan.specs.Lists.{all?, numbered}
-
-pub and-left : (a b : Bool) → T (a && b) → T a
-and-left true b t = tt
-and-left false b t = t
-
-pub and-right : (a b : Bool) → T (a && b) → T b
-and-right true b t = t
-and-right false b t = absurd t
+use Rattle.plan.specs.ListLaws.{and-left, and-right}
 
 pub and-both : (a b : Bool) → T a → T b → T (a && b)
 and-both true b t u = u
@@ -46,15 +39,6 @@ module _ {A : Type 0} (f : A → Bool) where
   all-at [] d t i h = absurd (not-suc-le-zero h)
   all-at (x ∷ l) d t zero h = and-left (f x) (all? f l) t
   all-at (x ∷ l) d t (suc i) h = all-at l d (and-right (f x) (all? f l) t) i (omega arith)
-
-  pub of-all : (l : List A) → T (all? f l) → (a : A) → List·Memᴰ a l → T (f a)
-  unfolding all?
-  of-all [] t a m = absurd (List·Memᴰ·not-nil m)
-  of-all (x ∷ xs) t a m =
-      elim (List·Memᴰ·cases-cons m) [
-        | inl e ↦ subst (λ y. T (f y)) (sym e) (and-left (f x) (all? f xs) t)
-        | inr m′ ↦ of-all xs (and-right (f x) (all? f xs) t) a m′
-      ]
 
 -- a test of every numbered entry
 numbered-at : {A : Type 0} (f : ℕ × A → Bool) (k : ℕ) (l : List A) (d : A) → T (all? f (numbered k l)) → (i : ℕ) → i < length l → T (f (k + i, getD l i d))

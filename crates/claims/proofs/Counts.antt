@@ -5,10 +5,11 @@ use Prim.Native.Nat.{ℕ, zero, suc, _+_, _≤_, _<_}
 use native.Mathlib.Omega.{arith}
 use native.Mathlib.Nat.{add-le-add, not-suc-le-zero}
 use mathlib.Core.Bool.{Bool, true, false}
-use mathlib.Core.List.{List, [], _∷_, _++_, map, reverse, reverse-cons, List·Memᴰ, List·Memᴰ·head, List·Memᴰ·tail, List·Memᴰ·not-nil, List·Memᴰ·cases-cons, List·Memᴰ·append-cases}
+use mathlib.Core.List.{List, [], _∷_, map, reverse, reverse-cons, List·Memᴰ, List·Memᴰ·head, List·Memᴰ·tail, List·Memᴰ·not-nil, List·Memᴰ·cases-cons, List·Memᴰ·append-cases}
 use lib.Dec.{T, eqb, eqb→eq, eqb-refl}
 use lib.ListN.{length, getD}
 use Rattle.plan.specs.Lists.{if_then_else_, select, sum, concat-map, numbered, times}
+use Rattle.plan.specs.ListLaws.{sum-append}
 use Rattle.claims.proofs.Booleans.{differ}
 
 -- Tests as equations --------------------------------------------------------------------------------------------------------
@@ -76,11 +77,6 @@ module _ {A : Type 0} where
   unfolding sum
   sum-le v w [] h = omega arith
   sum-le v w (x ∷ l) h = add-le-add (h x (List·Memᴰ·head refl)) (sum-le v w l (λ a m. h a (List·Memᴰ·tail m)))
-
-  pub sum-append : (w : A → ℕ) (l m : List A) → sum w (l ++ m) ≡ sum w l + sum w m
-  unfolding sum
-  sum-append w [] m = omega arith
-  sum-append w (x ∷ l) m = omega (arith, sum-append w l m)
 
   pub sum-reverse : (w : A → ℕ) (l : List A) → sum w (reverse l) ≡ sum w l
   unfolding sum

@@ -238,9 +238,9 @@ opened : (s : List ℕ) {r : Run} → run s ≡ done r → (read s then checked 
 unfolding run
 opened s e = e
 
-closed : (s : List ℕ) (r : Run) → run s ≡ done r → finished s ≡ done (printed r)
+pub run-printed : (s : List ℕ) (r : Run) → run s ≡ done r → finished s ≡ done (printed r)
 unfolding finished _then_
-closed s r e = ap (λ (o : Outcome Run). o then λ x. done (printed x)) e
+run-printed s r e = ap (λ (o : Outcome Run). o then λ x. done (printed x)) e
 
 -- Demand 1 --------------------------------------------------------------------------------------------------------------------------------
 
@@ -284,7 +284,7 @@ module _ (s output : List ℕ) where
       from-run i = opened s i
 
       finished-is : run s ≡ done r → finished s ≡ done (printed r)
-      finished-is i = closed s r i
+      finished-is i = run-printed s r i
 
   pub demand-1 : Demand-1 s output
   unfolding outcome refuse_when_else_

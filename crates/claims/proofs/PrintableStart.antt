@@ -16,8 +16,9 @@ use Rattle.plan.specs.Faults.{references-right, children-earlier, inputs-earlie
 use Rattle.plan.specs.Graph.{Edge, graph, grow, popped, following, opens, edges-into, sinks, most-places}
 use Rattle.plan.specs.Visit.{no-edge}
 use Rattle.plan.specs.Walks.{begin}
+use Rattle.plan.specs.ListLaws.{and-left, and-right, of-all}
 use Rattle.claims.specs.WellFormed.{WellFormed}
-use Rattle.claims.proofs.Booleans.{and-left, and-right, all-at, of-all, entry-at}
+use Rattle.claims.proofs.Booleans.{all-at, entry-at}
 use Rattle.claims.proofs.Tables.{few-children, small-option, of-step-table}
 use Rattle.claims.proofs.Sizes.{few-steps}
 use Rattle.claims.proofs.Counts.{mem-at}

@@ -13,7 +13,8 @@ use Rattle.plan.specs.Kinds.{ir, ir-number, same-ir}
 use Rattle.plan.specs.KindNumbers.{ir-back}
 use Rattle.plan.specs.Lists.{all?}
 use Rattle.plan.specs.Sheet.{Step, no-step, step-at, step-table, in-step-table}
-use Rattle.claims.proofs.Booleans.{and-left, and-right, all-at}
+use Rattle.plan.specs.ListLaws.{and-left, and-right}
+use Rattle.claims.proofs.Booleans.{all-at}
 
 -- Kinds and their numbers -----------------------------------------------------------------------------------------------------
 

@@ -6,7 +6,6 @@ use mathlib.Core.Bool.{Bool, true, false, not}
 use mathlib.Core.List.{List, [], _∷_, _++_, List·Memᴰ, List·Memᴰ·head, List·Memᴰ·tail}
 use lib.ListN.{length, length-append}
 use Rattle.plan.specs.declared.aexpr.AExpr.{AExpr}
-use Rattle.plan.specs.declared.ir.IR.{IR}
 use Rattle.plan.specs.Kinds.{aexpr-number, ir-number}
 use Rattle.plan.specs.Lists.{sum, concat-map, digit}
 use Rattle.plan.specs.Sheet.{Expr, Step}
@@ -14,7 +13,8 @@ use Rattle.plan.specs.Graph.{Edge}
 use Rattle.plan.specs.Visit.{Run}
 use Rattle.plan.specs.Decimals.{decimal-short}
 use Rattle.plan.specs.Text.{decimal, line, expr-line, step-line, edge-line, tally-line}
-use Rattle.claims.proofs.Counts.{sum-append}
+use Rattle.plan.specs.ListLaws.{sum-append}
+use Rattle.plan.specs.KindNumbers.{ir-small}
 
 -- a number behind its comma
 abbrev width : ℕ → ℕ
@@ -81,27 +81,6 @@ aexpr-small AExpr.Min = omega arith
 aexpr-small AExpr.Implode = omega arith
 aexpr-small AExpr.AggGroups = omega arith
 
-ir-small : (k : IR) → ir-number k < 1000
-ir-small IR.Scan = omega arith
-ir-small IR.UnoptimizedDispatch = omega arith
-ir-small IR.Sink = omega arith
-ir-small IR.Select = omega arith
-ir-small IR.HStack = omega arith
-ir-small IR.Sort = omega arith
-ir-small IR.Filter = omega arith
-ir-small IR.GroupBy = omega arith
-ir-small IR.Distinct = omega arith
-ir-small IR.Join = omega arith
-ir-small IR.Gather = omega arith
-ir-small IR.Union = omega arith
-ir-small IR.MergeSorted = omega arith
-ir-small IR.MapFunction = omega arith
-ir-small IR.HConcat = omega arith
-ir-small IR.Slice = omega arith
-ir-small IR.ExtContext = omega arith
-ir-small IR.SimpleProjection = omega arith
-ir-small IR.Cache = omega arith
-
 digit-small : (b : Bool) → digit b < 1000
 digit-small true = omega arith
 digit-small false = omega arith
@@ -140,7 +119,7 @@ step-line-short s a b c k₁ k₂ k₃ =
     omega (
       arith,
       line-length 80 (ir-number (s .kind) ∷ s .a ∷ s .b ∷ s .c ∷ n1 ∷ n2 ∷ n3 ∷ (s .inputs ++ s .exprs ++ s .aggs)),
-      short-width (ir-number (s .kind)) (ir-small (s .kind)),
+      short-width (ir-number (s .kind)) (omega (arith, ir-small (s .kind))),
       short-width (s .a) a,
       short-width (s .b) b,
       short-width (s .c) c,

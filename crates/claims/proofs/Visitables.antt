@@ -43,7 +43,7 @@ pub record Readable (s : Step) : Type 0 where
   pub merges : s .kind ≡ IR.MergeSorted → (s .exprs ≡ []) × (s .aggs ≡ [])
 
 -- only a GroupBy's list takes Implodes
-merge-unimploded : (s : Step) (es : List Expr) → s .kind ≡ IR.MergeSorted → with-implodes s es .0 ≡ s .aggs
+pub merge-unimploded : (s : Step) (es : List Expr) → s .kind ≡ IR.MergeSorted → with-implodes s es .0 ≡ s .aggs
 unfolding with-implodes
 merge-unimploded s es e =
     ap (λ (k : IR). let x : List ℕ × List Expr = if same-ir k IR.GroupBy then imploded (s .aggs) es else (s .aggs, es) in x .0) e

@@ -50,7 +50,7 @@ unfolding numbered
 length-numbered k [] = refl
 length-numbered k (x ∷ l) = ap suc (length-numbered (suc k) l)
 
-length-edges-into : (n : ℕ) (ms : List ℕ) → length (edges-into n ms) ≡ length ms
+pub length-edges-into : (n : ℕ) (ms : List ℕ) → length (edges-into n ms) ≡ length ms
 unfolding edges-into
 length-edges-into n ms = simp (length-map, length-numbered)
 

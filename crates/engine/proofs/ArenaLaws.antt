@@ -12,6 +12,7 @@ use Rattle.plan.specs.Look.{switched-off}
 use Rattle.plan.specs.Stored.{stored-expr, stored-exprs, held-expr, arena-of, Expr-formed}
 use Rattle.plan.specs.StoredLaws.{same-table}
 use Rattle.simplify_ordering.specs.Arena.{Arena-held}
+use Rattle.simplify_ordering.proofs.ImplodeLaws.{base-below}
 use Rattle.engine.specs.Lines.{Copied, Line-stored, Lines-stored}
 
 -- Bytes copied -------------------------------------------------------------------------------------------------------------------
@@ -103,9 +104,6 @@ module _ (bytes : List ℕ) (p : ℕ) (room : p * 16 + 16 ≤ length bytes) wher
 -- A line -------------------------------------------------------------------------------------------------------------------------
 
 module _ (recs line : List ℕ) (off : List Bool) (n p : ℕ) (held : Arena-held recs line off n) (lower : p < n) where
-  pub base-below : getD line p 0 < 128
-  base-below = omega (arith, held .below p lower, held .based .few)
-
   pub line-below : p < 128
   line-below = omega (arith, held .based .few)
 
@@ -114,7 +112,7 @@ module _ (recs line : List ℕ) (off : List Bool) (n p : ℕ) (held : Arena-held
     room = omega (arith, line-below, c .size, size)
 
     there : getD line p 0 * 16 + 16 ≤ length recs
-    there = omega (arith, base-below, held .records)
+    there = omega (arith, base-below recs line off n p held lower, held .records)
 
     formed : Expr-formed recs (getD line p 0)
     formed = held .based .formed (getD line p 0) (omega (arith, held .below p lower))

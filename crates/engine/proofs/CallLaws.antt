@@ -8,17 +8,18 @@ use lib.ListN.{length, take, drop, length-append}
 use lib.Seq.{take-append-seam, take-append-le, drop-append-seam}
 use borrow.Author.Tests.{lt-ltb, le-ltb}
 use Rattle.plan.specs.declared.answer.Answer.{Answer}
-use Rattle.plan.specs.Finished.{Called, called, run, finished, finish, finished-answer, answer-length}
+use Rattle.plan.specs.Finished.{Called, called, run, finish, finished-answer, answer-length}
 use Rattle.plan.specs.Lists.{concat-map}
 use Rattle.plan.specs.Sheet.{Sheet, Outcome, refused, done, _then_, refuse_when_else_}
 use Rattle.plan.specs.Stored.{stored-steps}
 use Rattle.plan.specs.Text.{line, edge-line, exprs-block, steps-block, edges-block, tally-line, printed}
 use Rattle.plan.specs.Visit.{Run}
 use Rattle.plan.specs.Walks.{down, up, simplify-and-fetch-orderings}
+use Rattle.plan.specs.StoredLaws.{length-steps}
 use Rattle.claims.specs.WellFormed.{Accepted, WellFormed}
 use Rattle.claims.specs.Demand1.{Demand-1, Finished-call, Refused-call}
 use Rattle.claims.specs.Demand3.{Finished-run}
-use Rattle.claims.proofs.Demand1.{demand-1}
+use Rattle.claims.proofs.Demand1.{demand-1, run-printed}
 use Rattle.claims.proofs.Demand3.{demand-3}
 use Rattle.claims.proofs.Outcomes.{same-value}
 use Rattle.claims.proofs.Plans as plans
@@ -30,7 +31,6 @@ use Rattle.reading.specs.declared.Plan.{Plan}
 use Rattle.reading.specs.declared.Plan.the-variants.{Taken, Refused}
 use Rattle.reading.proofs.Accepted.{Read-plan}
 use Rattle.ir_graph.specs.Built.{Built}
-use Rattle.ir_graph.proofs.Bounds.{length-steps}
 use Rattle.ir_graph.specs.declared.ir_graph.Graph.{Graph}
 use Rattle.engine.specs.Call.{call, Plan-stored, Graph-made}
 use Rattle.engine.specs.Demand3.{Stands, Demand-3-kept}
@@ -95,10 +95,6 @@ module _ (es : List ℕ) (m : ℕ) (ps : List ℕ) (n : ℕ) (k : Plan-stored es
 
 -- What follows of the answer -----------------------------------------------------------------------------------------------------
 
-finished-is : (s : List ℕ) (r : Run) → run s ≡ done r → finished s ≡ done (printed r)
-unfolding finished _then_
-finished-is s r e = ap (λ (o : Outcome Run). o then λ x. done (printed x)) e
-
 run-ends : (s : List ℕ) (sh : Sheet) (half whole : Run) → Accepted s sh → down sh ≡ done half → up half ≡ done whole → run s ≡ done whole
 unfolding run simplify-and-fetch-orderings _then_
 run-ends s sh half whole a d u = rw (a, d) u
@@ -126,7 +122,7 @@ module _ (s entry : List ℕ) (r : Run) (runs : run s ≡ done r) where
   front = take-append-seam (printed r) behind
 
   of-sheet : Finished-run s (printed r)
-  of-sheet = demand-3 s .finishes (printed r) (finished-is s r runs)
+  of-sheet = demand-3 s .finishes (printed r) (run-printed s r runs)
 
   same-run : of-sheet .whole ≡ r
   same-run =

@@ -28,7 +28,7 @@ use Rattle.expr.specs.Start.{Own-lines, None-off}
 use Rattle.expr.proofs.Asked.{based-of-sheet}
 use Rattle.expr.proofs.Starts.{all-same, arena-at-start}
 use Rattle.simplify_ordering.specs.Arena.{Arena-held}
-use Rattle.simplify_ordering.specs.Held.{producer-of, held-edge, held-edges, Steps-held}
+use Rattle.node_rules.specs.Held.{producer-of, held-edge, held-edges}
 use Rattle.simplify_ordering.specs.Run.{run-of}
 use Rattle.simplify_ordering.specs.Walks.{sheet-of, Fetch-asks, Orderings-are, Orderings-held}
 use Rattle.simplify_ordering.specs.declared.walks.Fetched.{Fetched}
@@ -55,7 +55,7 @@ module _ (es : List ℕ) (m : ℕ) (ps : List ℕ) (n : ℕ) (k : Plan-stored es
   pub sheet-at-start : sheet-of es line off m ps n ≡ sheet es m ps n
   sheet-at-start = rw (arena-at-start es m (k .exprs-held .few) line off own on)
 
-  module _ (records : length es ≡ 2048) (steps : length ps ≡ 1024) (consumer slot producer places : List ℕ) (g : Graph) (producers : length producer ≡ 256) (made : Graph-made (stored-steps ps n) places consumer slot producer g) where
+  module _ (records : length es ≡ 2048) (consumer slot producer places : List ℕ) (g : Graph) (producers : length producer ≡ 256) (made : Graph-made (stored-steps ps n) places consumer slot producer g) where
     arena-held : Arena-held es line off m
     arena-held =
         record {
@@ -68,16 +68,13 @@ module _ (es : List ℕ) (m : ℕ) (ps : List ℕ) (n : ℕ) (k : Plan-stored es
           below = λ p h. omega (arith, own .own p (omega (arith, k .exprs-held .few)));
         }
 
-    steps-held : Steps-held ps n
-    steps-held = record { few = k .steps-held .few; size = steps; formed = λ i h. k .steps-held .each i h .formed }
-
     pub fetch-asked : Fetch-asks es line off m ps n consumer slot producer (replicate 256 false) (g .edges) places (g .places)
     fetch-asked =
         record {
           held =
               record {
                 arena = arena-held;
-                steps-held = steps-held;
+                steps-held = k .steps-held;
                 few = made .few-edges;
                 producers = producers;
                 marks = length-replicate {A = Bool} 256 false;

@@ -3,24 +3,22 @@ ghost use mathlib.Core.Path.{_≡_};
 ghost use Prim.Native.Nat.{_≤_};
 ghost use lib.ListN.{length};
 ghost use Rattle.plan.specs.Finished.{called};
-ghost use Rattle.plan.specs.Stored.{stored-steps};
+ghost use Rattle.plan.specs.Stored.{stored-steps, Steps-held};
 ghost use Rattle.plan.specs.Walks.{simplify-and-fetch-orderings};
 ghost use Rattle.reading.specs.Held.{sheet};
 ghost use Rattle.simplify_ordering.specs.Arena.{Arena-held};
-ghost use Rattle.simplify_ordering.specs.Held.{Steps-held};
 ghost use Rattle.simplify_ordering.specs.Run.{run-of};
 ghost use Rattle.engine.specs.Call.{call, Plan-stored, Graph-made};
 ghost use Rattle.engine.specs.Lines.{Run-wrote};
 use crate::arena::store_lines;
-use expr::sizes::size_2048;
 use expr::start::none_off;
 use expr::start::own_lines;
 use ir_graph::ir_graph::Graph;
 use ir_graph::ir_graph::build_ir_traversal_graph;
-use ir_graph::sizes::size_256;
-use ir_graph::sizes::size_1024;
 use plan::answer::Answer;
 use plan::answer::Finished;
+use plan::sizes::size_256;
+use plan::sizes::size_2048;
 use simplify_ordering::walks::Fetched;
 use simplify_ordering::walks::Orderings;
 use simplify_ordering::walks::simplify_and_fetch_orderings;
@@ -88,7 +86,6 @@ fn finish_graph(
     ensures { λ r. ⌜ call r (now (out .exit)) ≡ called (now (out .entry)) (simplify-and-fetch-orderings (sheet (now (recs .entry)) exprs (now (steps .entry)) «n_steps»)) ⌝ }
 {
     size_2048(recs);
-    size_1024(steps);
     size_256(producer);
     let mut line = own_lines();
     let mut off = none_off();

@@ -12,7 +12,7 @@ use Rattle.plan.specs.declared.ir.IR.{IR}
 use Rattle.plan.specs.Kinds.{same-ir}
 use Rattle.plan.specs.Graph.{sinks, is-cache}
 use Rattle.plan.specs.Stored.{stored-step, stored-steps, Step-formed}
-use Rattle.plan.specs.StoredLaws.{length-table, table-at}
+use Rattle.plan.specs.StoredLaws.{table-at, length-steps}
 use Rattle.claims.proofs.Plans.{Plan}
 use Rattle.claims.proofs.Sizes.{few-sinks}
 use Rattle.ir_graph.specs.Turns.{cached}
@@ -36,10 +36,6 @@ few-named (x ∷ ps) plan n h =
 -- Of the steps that are stored ---------------------------------------------------------------------------------------------------
 
 module _ (bytes : List ℕ) (n : ℕ) where
-  pub length-steps : length (stored-steps bytes n) ≡ n
-  unfolding stored-steps
-  length-steps = length-table (stored-step bytes) 0 n
-
   pub step-there : (i : ℕ) → i < n → step-at (stored-steps bytes n) i ≡ stored-step bytes i
   unfolding stored-steps
   step-there i h = table-at (stored-step bytes) n i no-step h
@@ -50,8 +46,8 @@ module _ (bytes : List ℕ) (n : ℕ) where
   module _ (small : n ≤ 32) (plan : Plan (stored-steps bytes n)) (formed : (i : ℕ) → i < n → Step-formed bytes i) where
     pub namings : length (named (stored-steps bytes n)) ≤ 248
     namings =
-        few-named (stored-steps bytes n) plan (omega (arith, length-steps))
-        (λ i h. let l : i < n = omega (arith, length-steps) in rw (step-there i l) (few-inputs bytes i (formed i l)))
+        few-named (stored-steps bytes n) plan (omega (arith, length-steps bytes n))
+        (λ i h. let l : i < n = omega (arith, length-steps bytes n) in rw (step-there i l) (few-inputs bytes i (formed i l)))
 
     pub roots : length (sinks (stored-steps bytes n)) ≤ 32
-    roots = omega (arith, few-sinks (stored-steps bytes n), length-steps)
+    roots = omega (arith, few-sinks (stored-steps bytes n), length-steps bytes n)

@@ -11,10 +11,11 @@ use lib.Seq.{drop-cons, getD-take, getD-drop}
 use Rattle.plan.specs.Sheet.{Step, step-at, step-of}
 use Rattle.plan.specs.Graph.{popped}
 use Rattle.plan.specs.Stored.{table, stored-step, stored-steps}
+use Rattle.plan.specs.StoredLaws.{length-steps}
 use Rattle.ir_graph.specs.Turns.{cached}
 use Rattle.ir_graph.specs.UpdateCaches.{one-id, first-met, first-lines}
-use Rattle.ir_graph.proofs.Bounds.{length-steps, step-there, cache-there}
-use Rattle.ir_graph.proofs.Pushing.{pushed-one, table-more}
+use Rattle.ir_graph.proofs.Bounds.{step-there, cache-there}
+use Rattle.ir_graph.proofs.Pushing.{pushed-one, one-entry-more}
 
 -- Two lines with one id ----------------------------------------------------------------------------------------------------------
 
@@ -70,7 +71,7 @@ none-noted f first = refl
 pub one-noted : (f : ℕ → ℕ) (first : List ℕ) (m v : ℕ) → m < length first → take m first ≡ table f 0 m → v ≡ f m
     → take (m + 1) (set first m v) ≡ table f 0 (m + 1)
 one-noted f first m v h e q =
-    pushed-one first m v h .entries ∙ ap₂ (λ (l : List ℕ) (x : ℕ). l ++ (x ∷ [])) e q ∙ sym (table-more f m)
+    pushed-one first m v h .entries ∙ ap₂ (λ (l : List ℕ) (x : ℕ). l ++ (x ∷ [])) e q ∙ sym (one-entry-more f m)
 
 pub all-noted : (bytes : List ℕ) (n : ℕ) (met first : List ℕ) (m : ℕ) → met ≡ popped (stored-steps bytes n) → m ≡ n
     → take m first ≡ table (first-met (stored-steps bytes n) met) 0 m → take n first ≡ first-lines (stored-steps bytes n)

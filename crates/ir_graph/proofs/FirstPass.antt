@@ -16,15 +16,17 @@ use Rattle.plan.specs.Sheet.{Step, step-at}
 use Rattle.plan.specs.Faults.{named}
 use Rattle.plan.specs.Graph.{sinks, is-cache, most-places, pushes, pop, popped}
 use Rattle.plan.specs.Stored.{stored-step, stored-steps, Step-formed}
+use Rattle.plan.specs.ListLaws.{sum-append}
+use Rattle.plan.specs.StoredLaws.{length-steps}
 use Rattle.claims.proofs.Booleans.{T-eq}
-use Rattle.claims.proofs.Counts.{sum-append, sum-reverse, sum-le, sum-ones, times-same, times-other, mem-reverse, mem-at, only}
+use Rattle.claims.proofs.Counts.{sum-reverse, sum-le, sum-ones, times-same, times-other, mem-reverse, mem-at, only}
 use Rattle.claims.proofs.Plans.{Plan, root-there, input-there, cache-named}
 use Rattle.claims.proofs.Reached.{followed-le, followed-none}
 use Rattle.claims.proofs.Hits.{Counted, counted-next, among-times, times-among}
 use Rattle.ir_graph.specs.Pushed.{Pushed}
 use Rattle.ir_graph.specs.Turns.{cached, pushed-by, hit}
 use Rattle.ir_graph.specs.Hits.{Hits-counted, Met-noted}
-use Rattle.ir_graph.proofs.Bounds.{length-steps, step-there, cache-there, namings, roots}
+use Rattle.ir_graph.proofs.Bounds.{step-there, cache-there, namings, roots}
 use Rattle.ir_graph.proofs.Pushing.{pushed-one}
 
 -- `met` was popped and is noted in `order`, the first `len` bytes of `stack` wait, and what is left of the pass comes to the whole of it

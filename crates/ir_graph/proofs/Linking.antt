@@ -8,9 +8,9 @@ use lib.ListN.{length, getD, take, drop, set, length-take, length-drop}
 use lib.Seq.{take-suc, take-all, getD-take, getD-drop, getD-set-same, getD-set-other}
 use Rattle.plan.specs.Lists.{numbered}
 use Rattle.plan.specs.Graph.{Edge, edges-into}
-use Rattle.plan.specs.StoredLaws.{length-table}
+use Rattle.plan.specs.StoredLaws.{length-table, same-table}
 use Rattle.ir_graph.specs.Edges.{made, edges-of, Linked}
-use Rattle.ir_graph.proofs.Pushing.{table-more, table-same}
+use Rattle.ir_graph.proofs.Pushing.{one-entry-more}
 
 pub length-edges : (c s p : List ℕ) (e : ℕ) → length (edges-of c s p e) ≡ e
 unfolding edges-of
@@ -21,10 +21,10 @@ pub edge-more : (c s p : List ℕ) (e n k m : ℕ) → e < length c → e < leng
     → edges-of (set c e n) (set s e k) (set p e m) (e + 1) ≡ edges-of c s p e ++ (made n k m ∷ [])
 unfolding edges-of
 edge-more c s p e n k m h₁ h₂ h₃ =
-    table-more (λ j. made (getD (set c e n) j 0) (getD (set s e k) j 0) (getD (set p e m) j 0)) e
+    one-entry-more (λ j. made (getD (set c e n) j 0) (getD (set s e k) j 0) (getD (set p e m) j 0)) e
     ∙ rw (getD-set-same c e n 0 h₁, getD-set-same s e k 0 h₂, getD-set-same p e m 0 h₃)
     (ap (λ (l : List Edge). l ++ (made n k m ∷ []))
-    (table-same (λ j. made (getD (set c e n) j 0) (getD (set s e k) j 0) (getD (set p e m) j 0)) (λ j. made (getD c j 0) (getD s j 0) (getD p j 0)) 0 e
+    (same-table (λ j. made (getD (set c e n) j 0) (getD (set s e k) j 0) (getD (set p e m) j 0)) (λ j. made (getD c j 0) (getD s j 0) (getD p j 0)) e
     (λ j l. rw (getD-set-other c e j n 0 (omega arith), getD-set-other s e j k 0 (omega arith), getD-set-other p e j m 0 (omega arith)))))
 
 -- the edges into n from one input more

@@ -1,7 +1,7 @@
 -- Pushing onto a list, and the roots.
 use mathlib.Core.Path.{_≡_, refl, sym, ap, _∙_}
 use mathlib.Core.List.{List, [], _∷_, _++_, map, append-assoc, append-nil}
-use Prim.Native.Nat.{ℕ, zero, suc, _+_, _≤_, _<_}
+use Prim.Native.Nat.{ℕ, suc, _+_, _≤_, _<_}
 use native.Mathlib.Omega.{arith}
 use native.Mathlib.Numerals.{add-one}
 use mathlib.Core.Bool.{Bool, true, false}
@@ -13,7 +13,8 @@ use Rattle.plan.specs.Lists.{if_then_else_, select, numbered}
 use Rattle.plan.specs.Sheet.{Step}
 use Rattle.plan.specs.Graph.{sinks}
 use Rattle.plan.specs.Stored.{table, stored-step, stored-steps}
-use Rattle.plan.specs.StoredLaws.{length-table}
+use Rattle.plan.specs.StoredLaws.{length-table, table-more}
+use Rattle.claims.proofs.Plans.{sinks-from}
 use Rattle.ir_graph.specs.Pushed.{Pushed}
 use Rattle.ir_graph.specs.Turns.{root}
 
@@ -33,26 +34,10 @@ pushed-then a b {x = x} {k = k} p p′ =
 
 -- Tables -------------------------------------------------------------------------------------------------------------------------
 
-module _ {A : Type 0} (f : ℕ → A) where
-  more-from : (k n : ℕ) → table f k (suc n) ≡ table f k n ++ (f (k + n) ∷ [])
-  unfolding table
-  more-from k zero = let e : k ≡ k + 0 = omega arith in ap (λ (i : ℕ). f i ∷ []) e
-  more-from k (suc n) =
-      let e : suc k + n ≡ k + suc n = omega arith in
-      ap (λ (l : List A). f k ∷ l) (more-from (suc k) n ∙ ap (λ (i : ℕ). table f (suc k) n ++ (f i ∷ [])) e)
-
-  pub table-more : (n : ℕ) → table f 0 (n + 1) ≡ table f 0 n ++ (f n ∷ [])
-  table-more n = let e : 0 + n ≡ n = omega arith in rw (add-one, more-from 0 n, e)
-
-  pub table-same : (g : ℕ → A) (k n : ℕ) → ((i : ℕ) → i < k + n → f i ≡ g i) → table f k n ≡ table g k n
-  unfolding table
-  table-same g k zero h = refl
-  table-same g k (suc n) h = rw (h k (omega arith), table-same g (suc k) n (λ i l. h i (omega arith)))
+pub one-entry-more : {A : Type 0} (f : ℕ → A) (n : ℕ) → table f 0 (n + 1) ≡ table f 0 n ++ (f n ∷ [])
+one-entry-more f n = let e : 0 + n ≡ n = omega arith in rw (add-one, table-more f 0 n, e)
 
 -- The roots ----------------------------------------------------------------------------------------------------------------------
-
-abbrev sinks-from : ℕ → List Step → List ℕ
-sinks-from k ps = map (λ (n, s). n) (select (λ (n, s). same-ir (s .kind) IR.Sink) (numbered k ps))
 
 abbrev one-if : Bool → ℕ → List ℕ
 one-if b k = if b then k ∷ [] else []
@@ -81,7 +66,7 @@ module _ (bytes : List ℕ) where
   root-more : (i : ℕ) → sinks (stored-steps bytes (i + 1)) ≡ sinks (stored-steps bytes i) ++ root bytes i
   unfolding sinks stored-steps root
   root-more i =
-      rw (table-more (stored-step bytes) i)
+      rw (one-entry-more (stored-step bytes) i)
       (sinks-more 0 (table (stored-step bytes) 0 i) (stored-step bytes i)
       ∙ ap (λ (j : ℕ). sinks-from 0 (table (stored-step bytes) 0 i) ++ one-if (same-ir (stored-step bytes i .kind) IR.Sink) j) (at i))
     where

@@ -7,7 +7,7 @@ use native.Mathlib.Decide.{ℕ-discrete}
 use mathlib.Core.Bool.{Bool, true, false, _||_, not}
 use mathlib.Core.List.{List, [], _∷_, _++_, map, append-nil}
 use lib.Dec.{T, eqb, eqb→eq}
-use lib.ListN.{length, getD, take, drop, set, length-append, length-drop, length-map, length-set}
+use lib.ListN.{length, getD, take, drop, set, length-append, length-drop, length-set}
 use lib.Seq.{take-all, take-append-le, drop-append-le, drop-append-seam, getD-set-same, getD-set-other}
 use Rattle.plan.specs.Lists.{if_then_else_, select, sum, numbered, times}
 use Rattle.plan.specs.Sheet.{Step, step-at}
@@ -20,7 +20,7 @@ use Rattle.claims.proofs.Counts.{false-of, true-of, sum-reverse, times-same, ti
 use Rattle.claims.proofs.Plans.{Plan, cache-named}
 use Rattle.claims.proofs.Reached.{followed-le}
 use Rattle.claims.proofs.Hits.{hits-named}
-use Rattle.claims.proofs.Visits.{length-numbered}
+use Rattle.claims.proofs.Visits.{length-edges-into}
 use Rattle.claims.proofs.Places.{opened, graph-ordered}
 use Rattle.ir_graph.specs.Edges.{made}
 use Rattle.ir_graph.specs.Built.{In-row}
@@ -58,10 +58,6 @@ own-edges n ms = own-from n 0 ms
 other-edges : (n m : ℕ) (ms : List ℕ) → m ≢ n → select (is-into m) (edges-into n ms) ≡ []
 unfolding edges-into made-from
 other-edges n m ms h = other-from n m 0 ms h
-
-pub length-into : (n : ℕ) (ms : List ℕ) → length (edges-into n ms) ≡ length ms
-unfolding edges-into
-length-into n ms = simp length-map (length-numbered 0 ms)
 
 no-edges : (n : ℕ) → edges-into n [] ≡ []
 unfolding edges-into numbered
@@ -155,7 +151,7 @@ module _ (bytes : List ℕ) (n : ℕ) (small : n ≤ 32) (plan : Plan (stored-st
 
     opened-now : select (is-into here) es ≡ [] → inputs ≡ step-at all-steps here .inputs → In-row all-steps (es ++ made-here) here (length es)
     opened-now none v =
-        let size : length made-here ≡ length (step-at all-steps here .inputs) = length-into here inputs ∙ ap length v in
+        let size : length made-here ≡ length (step-at all-steps here .inputs) = length-edges-into here inputs ∙ ap length v in
         record {
           row =
               rw (select-append (is-into here) es made-here, none, own-edges here inputs, drop-append-seam es made-here)

@@ -16,6 +16,7 @@ use Rattle.plan.specs.Sheet.{Step, step-at}
 use Rattle.plan.specs.Faults.{named}
 use Rattle.plan.specs.Graph.{Edge, graph, grow, popped, hits, opens, following, edges-into, sinks, is-cache, most-places}
 use Rattle.plan.specs.Stored.{stored-step, stored-steps, Step-formed}
+use Rattle.plan.specs.StoredLaws.{length-steps}
 use Rattle.claims.proofs.Booleans.{T-eq, equal}
 use Rattle.claims.proofs.Counts.{sum-ones, times-same, times-other, only}
 use Rattle.claims.proofs.Plans.{Plan, root-there, input-there, cache-named}
@@ -27,7 +28,7 @@ use Rattle.ir_graph.specs.Pushed.{Pushed}
 use Rattle.ir_graph.specs.Turns.{cached, followed-by, used}
 use Rattle.ir_graph.specs.Hits.{Hits-counted}
 use Rattle.ir_graph.proofs.Inputs.{few-inputs}
-use Rattle.ir_graph.proofs.Bounds.{length-steps, step-there, cache-there, namings, roots}
+use Rattle.ir_graph.proofs.Bounds.{step-there, cache-there, namings, roots}
 
 -- the places gone through, the last one first, and those that wait
 abbrev pub past-of : List ℕ → ℕ → List ℕ

@@ -14,15 +14,15 @@ use Rattle.plan.specs.Lists.{if_then_else_}
 use Rattle.plan.specs.Sheet.{Step, no-step, step-at}
 use Rattle.plan.specs.Graph.{is-cache, popped}
 use Rattle.plan.specs.Stored.{stored-steps, Step-formed}
-use Rattle.plan.specs.StoredLaws.{table-at}
+use Rattle.plan.specs.StoredLaws.{table-at, length-steps}
 use Rattle.plan.specs.StoredChanges.{formed-still, input-stored}
 use Rattle.plan.specs.Visit.{with-input}
-use Rattle.claims.proofs.Booleans.{and-left, and-right}
+use Rattle.plan.specs.ListLaws.{and-left, and-right}
 use Rattle.claims.proofs.Stays.{reads-kept}
 use Rattle.claims.proofs.StepTable.{same-kind, in-range, has-inputs}
 use Rattle.ir_graph.specs.Turns.{cached}
 use Rattle.ir_graph.specs.UpdateCaches.{one-id, first-met, first-lines, update-cache-node, update-lines, update-cache-nodes, Updatable}
-use Rattle.ir_graph.proofs.Bounds.{length-steps, step-there, cache-there}
+use Rattle.ir_graph.proofs.Bounds.{step-there, cache-there}
 use Rattle.ir_graph.proofs.Inputs.{input-count, input-at}
 
 -- One line -----------------------------------------------------------------------------------------------------------------------

@@ -4,8 +4,8 @@ ghost use mathlib.Core.List.{[], _∷_, _++_};
 ghost use Prim.Native.Nat.{_+_, _-_, _≤_, _<_};
 ghost use lib.ListN.{take, drop};
 ghost use Rattle.ir_graph.specs.Edges.{made, edges-of, Linked};
-use crate::sizes::size_256;
-use crate::sizes::size_288;
+use plan::sizes::size_256;
+use plan::sizes::size_288;
 
 // The edge number e, from `input` into the slot k of the step.
 fn make_edge(

@@ -6,9 +6,9 @@ ghost use Rattle.plan.specs.Stored.{stored-steps, Step-formed};
 ghost use Rattle.claims.proofs.Plans.{Plan};
 ghost use Rattle.ir_graph.specs.UpdateCaches.{one-id, first-met, first-lines};
 use crate::hits::count_hits;
-use crate::sizes::size_32;
-use crate::sizes::size_288;
 use crate::stored::is_cache;
+use plan::sizes::size_32;
+use plan::sizes::size_288;
 
 // Is k a Cache with m's id?
 fn one_id(steps: &[u8; 1024], n: usize, k: usize, m: usize) -> bool

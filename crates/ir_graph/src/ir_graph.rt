@@ -15,10 +15,10 @@ use crate::edges::link;
 use crate::hits::count_hits;
 use crate::out_edges::note_producers;
 use crate::roots::push_roots;
-use crate::sizes::size_32;
-use crate::sizes::size_288;
 use crate::stored::copy_inputs;
 use crate::stored::is_cache;
+use plan::sizes::size_32;
+use plan::sizes::size_288;
 
 // The inputs that follow the place of the step i: a Cache's follow at its last place.
 fn follow(

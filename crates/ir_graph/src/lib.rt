@@ -6,6 +6,5 @@ pub mod ir_graph; // ir_graph.rt: the second pass
 pub mod ir_node_key; // ir_node_key.rt: IRNodeKey
 pub mod out_edges; // out_edges.rt: the edge that leaves a step
 pub mod roots; // roots.rt: the roots
-pub mod sizes; // sizes.rt: the lengths of arrays, for proofs
 pub mod stored; // stored.rt: a step's kind and inputs, where they are stored
 pub mod update_cache_nodes; // update_cache_nodes.rt: update_cache_nodes

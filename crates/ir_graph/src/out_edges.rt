@@ -2,7 +2,7 @@
 ghost use Prim.Native.Nat.{ℕ, _≤_, _<_};
 ghost use lib.ListN.{getD};
 ghost use Rattle.ir_graph.specs.Outs.{Noted};
-use crate::sizes::size_32;
+use plan::sizes::size_32;
 
 // Where several edges leave a step, as they may a Cache, the last one is noted.
 pub fn note_producers(producer: &[u8; 256], edges: usize, out_edge: &mut [u8; 32])

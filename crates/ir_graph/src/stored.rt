@@ -6,9 +6,9 @@ ghost use Rattle.plan.specs.declared.ir.IR.{IR};
 ghost use Rattle.plan.specs.Kinds.{same-ir};
 ghost use Rattle.plan.specs.Stored.{stored-step, Step-formed};
 ghost use Rattle.ir_graph.specs.Pushed.{Pushed};
-use crate::sizes::size_288;
-use crate::sizes::size_1024;
 use plan::ir::IR;
+use plan::sizes::size_288;
+use plan::sizes::size_1024;
 
 pub fn kind_of(steps: &[u8; 1024], i: usize) -> IR
     requires { ⌜ i < 32 ⌝ }

@@ -4,8 +4,8 @@ ghost use Prim.Native.Nat.{ℕ, _≤_, _<_};
 ghost use lib.ListN.{take};
 ghost use Rattle.plan.specs.Stored.{stored-steps, Step-formed};
 ghost use Rattle.ir_graph.specs.UpdateCaches.{update-cache-node, update-cache-nodes, Updatable};
-use crate::sizes::size_1024;
 use crate::stored::is_cache;
+use plan::sizes::size_1024;
 
 // Line m, if it is a Cache, takes the input of the line of its id that was met first.
 fn update_cache_node(steps: &mut [u8; 1024], n: usize, first: &[u8; 32], m: usize)

@@ -16,8 +16,9 @@ use Rattle.plan.specs.Lists.{same, concat-map}
 use Rattle.plan.specs.Sheet.{Outcome, refused, done, refuse_when_else_}
 use Rattle.plan.specs.Text.{line, edge-line, exprs-block, steps-block, edges-block, tally-line, printed}
 use Rattle.plan.specs.Visit.{Run}
+use Rattle.plan.specs.ListLaws.{and-left, and-right}
 use Rattle.claims.specs.Demand1.{Finished-call, Refused-call}
-use Rattle.claims.proofs.Booleans.{and-left, and-right, and-both, T-eq}
+use Rattle.claims.proofs.Booleans.{and-both, T-eq}
 use Rattle.claims.proofs.Demand1.{demand-1}
 use Rattle.claims.proofs.Outcomes.{same-value}
 use Rattle.engine.specs.Call.{call}

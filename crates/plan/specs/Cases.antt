@@ -1,16 +1,16 @@
 -- The cases A to J of document 01: a table, one test that computes, and one law that makes of each row an equation.
-use mathlib.Core.Path.{_≡_, refl, ap, ap₂, subst, sym}
-use mathlib.Core.Logic.{inl, inr}
+use mathlib.Core.Path.{_≡_, ap}
 use Prim.Native.Nat.{ℕ}
 use Prim.Native.String.{String, [] as []ˢ, _∷_ as _∷ˢ_}
 use Prim.Native.Char.{code}
-use mathlib.Core.Bool.{Bool, true, false, _&&_}
-use mathlib.Core.List.{List, [], _∷_, List·Memᴰ, List·Memᴰ·not-nil, List·Memᴰ·cases-cons}
+use mathlib.Core.Bool.{Bool, false}
+use mathlib.Core.List.{List, [], _∷_, List·Memᴰ}
 use lib.Dec.{T, eqb, eqb→eq}
 use Rattle.plan.specs.Lists.{same, all?}
 use Rattle.plan.specs.Sheet.{Outcome, refused, done}
 use Rattle.plan.specs.Finished.{finished}
 use Rattle.plan.specs.Computing.{computing}
+use Rattle.plan.specs.ListLaws.{same→eq, of-all}
 
 -- the bytes of an ASCII text
 unfoldable pub bytes : String → List ℕ
@@ -97,37 +97,12 @@ all-right = tt
 
 -- What a passed test says ---------------------------------------------------------------------------------------------
 
-and-left : (a b : Bool) → T (a && b) → T a
-and-left true b t = tt
-and-left false b t = t
-
-and-right : (a b : Bool) → T (a && b) → T b
-and-right true b t = t
-and-right false b t = absurd t
-
-same→eq : (x y : List ℕ) → T (same x y) → x ≡ y
-unfolding same
-same→eq [] [] t = refl
-same→eq [] (y ∷ ys) t = absurd t
-same→eq (x ∷ xs) [] t = absurd t
-same→eq (x ∷ xs) (y ∷ ys) t =
-    ap₂ (λ (a : ℕ) (l : List ℕ). a ∷ l) (eqb→eq x y (and-left (eqb x y) (same xs ys) t)) (same→eq xs ys (and-right (eqb x y) (same xs ys) t))
-
 agree→eq : (x y : Outcome (List ℕ)) → T (agree x y) → x ≡ y
 unfolding agree
 agree→eq (refused n) (refused m) t = ap refused (eqb→eq n m t)
 agree→eq (refused n) (done y) t = absurd t
 agree→eq (done x) (refused m) t = absurd t
 agree→eq (done x) (done y) t = ap done (same→eq x y t)
-
-of-all : {A : Type 0} (f : A → Bool) (l : List A) → T (all? f l) → (a : A) → List·Memᴰ a l → T (f a)
-unfolding all?
-of-all f [] t a m = absurd (List·Memᴰ·not-nil m)
-of-all f (x ∷ xs) t a m =
-    elim (List·Memᴰ·cases-cons m) [
-      | inl e ↦ subst (λ y. T (f y)) (sym e) (and-left (f x) (all? f xs) t)
-      | inr m′ ↦ of-all f xs (and-right (f x) (all? f xs) t) a m′
-    ]
 
 -- every row of the table
 pub cases : (sent : String) (back : Outcome String) → List·Memᴰ (sent, back) table → finished (bytes sent) ≡ written back

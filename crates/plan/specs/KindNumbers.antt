@@ -130,3 +130,25 @@ function-ir-back FunctionIR.Explode = refl
 function-ir-back FunctionIR.Unpivot = refl
 function-ir-back FunctionIR.Opaque = refl
 function-ir-back FunctionIR.Hint = refl
+
+-- a kind's number is within the table
+pub ir-small : (k : IR) → ir-number k < 19
+ir-small IR.Scan = omega arith
+ir-small IR.UnoptimizedDispatch = omega arith
+ir-small IR.Sink = omega arith
+ir-small IR.Select = omega arith
+ir-small IR.HStack = omega arith
+ir-small IR.Sort = omega arith
+ir-small IR.Filter = omega arith
+ir-small IR.GroupBy = omega arith
+ir-small IR.Distinct = omega arith
+ir-small IR.Join = omega arith
+ir-small IR.Gather = omega arith
+ir-small IR.Union = omega arith
+ir-small IR.MergeSorted = omega arith
+ir-small IR.MapFunction = omega arith
+ir-small IR.HConcat = omega arith
+ir-small IR.Slice = omega arith
+ir-small IR.ExtContext = omega arith
+ir-small IR.SimpleProjection = omega arith
+ir-small IR.Cache = omega arith

@@ -1,4 +1,5 @@
 pub mod Lists
+pub mod ListLaws
 pub mod Kinds
 pub mod KindNumbers
 pub mod FunctionFlags

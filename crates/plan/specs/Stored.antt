@@ -1,8 +1,9 @@
 -- How the code stores a sheet: the numbers of each line as they stand on it, at a fixed stride in lent bytes.
 use Prim.Native.Nat.{ℕ, zero, suc, _+_, _*_, _≤_, _<_}
+use mathlib.Core.Path.{_≡_}
 use mathlib.Core.Bool.{Bool, true, false}
 use mathlib.Core.List.{List, [], _∷_}
-use lib.ListN.{getD, take, drop}
+use lib.ListN.{length, getD, take, drop}
 use Rattle.plan.specs.Lists.{if_then_else_}
 use Rattle.plan.specs.Sheet.{Expr, Step, expr-of, step-of}
 use Rattle.plan.specs.Look.{switched-off}
@@ -49,3 +50,9 @@ pub record Step-formed (bytes : List ℕ) (i : ℕ) : Type 0 where
   pub n1 : getD bytes (i * 32 + 4) 0 ≤ 8
   pub n2 : getD bytes (i * 32 + 5) 0 ≤ 8
   pub n3 : getD bytes (i * 32 + 6) 0 ≤ 8
+
+-- the bytes hold n P lines
+pub record Steps-held (bytes : List ℕ) (n : ℕ) : Type 0 where
+  pub few : n ≤ 32
+  pub size : length bytes ≡ 1024
+  pub formed : (i : ℕ) → i < n → Step-formed bytes i

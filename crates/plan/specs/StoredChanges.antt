@@ -2,25 +2,21 @@
 use mathlib.Core.Path.{_≡_, refl, sym, ap, ap₂, _∙_}
 use mathlib.Core.Logic.{_≢_}
 use mathlib.Core.List.{List, [], _∷_}
-use Prim.Native.Nat.{ℕ, zero, suc, _+_, _*_, _-_, _≤_, _<_}
+use Prim.Native.Nat.{ℕ, suc, _+_, _*_, _-_, _≤_, _<_}
 use native.Mathlib.Omega.{arith}
-use native.Mathlib.Nat.{suc-add, not-suc-le-zero}
+use native.Mathlib.Nat.{not-suc-le-zero}
 use native.Mathlib.Decide.{decLt, ℕ-discrete}
 use lib.ListN.{length, getD, take, drop, set, length-set, length-drop}
-use lib.Seq.{ext-getD, getD-set-same, getD-set-other, take-nil, take-take, drop-drop, getD-take, getD-drop, drop-set-lt, drop-set-add, take-set-le, take-set-lt}
+use lib.Seq.{ext-getD, getD-set-same, getD-set-other, take-take, drop-drop, getD-take, getD-drop, drop-set-lt, drop-set-add, take-set-le, take-set-lt}
 use Rattle.plan.specs.declared.ir.IR.{IR}
 use Rattle.plan.specs.Kinds.{ir}
 use Rattle.plan.specs.Sheet.{Step, no-step, step-of, step-at}
 use Rattle.plan.specs.Visit.{with-input, with-aggs}
 use Rattle.plan.specs.Stored.{table, stored-step, stored-steps, Step-formed}
 use Rattle.plan.specs.StoredLaws.{length-table, table-at}
+use Rattle.plan.specs.ListLaws.{drop-take}
 
 -- A step reads its own numbers alone ----------------------------------------------------------------------------------------------
-
-drop-take : (a m : ℕ) (l : List ℕ) → drop a (take (a + m) l) ≡ take m (drop a l)
-drop-take zero m l = let e : 0 + m ≡ m = omega arith in rw e
-drop-take (suc a) m [] = ap (drop (suc a)) (take-nil (suc a + m)) ∙ sym (take-nil m)
-drop-take (suc a) m (x ∷ l) = ap (λ n. drop (suc a) (take n (x ∷ l))) (suc-add a m) ∙ drop-take a m l
 
 part-taken : (l : List ℕ) (a k m : ℕ) → a + k ≤ m → take k (drop a (take m l)) ≡ take k (drop a l)
 part-taken l a k m h =

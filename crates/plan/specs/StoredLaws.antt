@@ -13,7 +13,7 @@ use Rattle.plan.specs.KindNumbers.{aexpr-there, ir-there}
 use Rattle.plan.specs.Lists.{yes?, digit}
 use Rattle.plan.specs.Sheet.{expr-of, step-of}
 use Rattle.plan.specs.Text.{line, expr-line, step-line}
-use Rattle.plan.specs.Stored.{table, stored-expr, stored-step, Expr-formed, Step-formed}
+use Rattle.plan.specs.Stored.{table, stored-expr, stored-step, stored-exprs, stored-steps, held-expr, arena-of, Expr-formed, Step-formed}
 
 -- Tables -------------------------------------------------------------------------------------------------------------------------
 
@@ -38,6 +38,19 @@ module _ {A : Type 0} (f : ℕ → A) where
   table-more k zero = ap (λ (i : ℕ). f i ∷ []) (omega arith)
   table-more k (suc n) =
       ap (λ (l : List A). f k ∷ l) (table-more (suc k) n ∙ ap (λ (i : ℕ). table f (suc k) n ++ (f i ∷ [])) (omega arith))
+
+-- as many lines as are stored
+pub length-exprs : (bytes : List ℕ) (n : ℕ) → length (stored-exprs bytes n) ≡ n
+unfolding stored-exprs
+length-exprs bytes n = length-table (stored-expr bytes) 0 n
+
+pub length-steps : (bytes : List ℕ) (n : ℕ) → length (stored-steps bytes n) ≡ n
+unfolding stored-steps
+length-steps bytes n = length-table (stored-step bytes) 0 n
+
+pub length-arena : (recs line : List ℕ) (off : List Bool) (n : ℕ) → length (arena-of recs line off n) ≡ n
+unfolding arena-of
+length-arena recs line off n = length-table (held-expr recs line off) 0 n
 
 -- Tables that agree
 same-from : {A : Type 0} (f g : ℕ → A) (k n : ℕ) → ((j : ℕ) → k ≤ j → j < k + n → f j ≡ g j) → table f k n ≡ table g k n

@@ -7,3 +7,4 @@ pub mod function_ir; // function_ir.rt: FunctionIR
 pub mod ir; // ir.rt: IR
 pub mod join; // join.rt: JoinType, MaintainOrderJoin
 pub mod orders; // orders.rt: ObservableOrders
+pub mod sizes; // sizes.rt: the length of an array, as a fact for proofs

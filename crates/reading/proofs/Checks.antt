@@ -15,8 +15,8 @@ use Rattle.plan.specs.Kinds.{aexpr-number, ir-number, same-ir}
 use Rattle.plan.specs.KindNumbers.{aexpr-there, ir-there}
 use Rattle.plan.specs.Lists.{if_then_else_, sum, empty?, same, yes?}
 use Rattle.plan.specs.Sheet.{Expr, Step, Sheet, E, P, refused, done, refuse_when_else_, lettered, expr-of, step-of, expr-fits, step-fits, in-expr-table, in-step-table, expr-count, over-limits, with-expr, with-step, read-line}
-use Rattle.plan.specs.Stored.{stored-exprs, stored-steps, stored-expr, stored-step, table}
-use Rattle.plan.specs.StoredLaws.{length-table}
+use Rattle.plan.specs.Stored.{stored-exprs, stored-steps, table}
+use Rattle.plan.specs.StoredLaws.{length-exprs, length-steps}
 use Rattle.plan.specs.StoredChanges.{step-take}
 use Rattle.reading.specs.Line.{line, ended, numbers-after, numbers-of, Kept, All-read}
 use Rattle.reading.specs.Tables.{row, expr-numbers-fit, step-numbers-fit, most-a, most-b, most-c, inputs, exprs, most-aggs, within}
@@ -37,7 +37,7 @@ unfolding in-expr-table row
 in-row e k h = rw (in-expr-table, h)
 
 -- of tests joined from the left
-first-holds : (a b c : Bool) → (a && b && c) ≡ true → a ≡ true
+pub first-holds : (a b c : Bool) → (a && b && c) ≡ true → a ≡ true
 first-holds true b c h = refl
 first-holds false b c h = h
 
@@ -196,14 +196,6 @@ sizes : (sh : Sheet) (n m : ℕ) → length (sh .exprs) + agg-entries (sh .steps
 unfolding over-limits expr-count agg-entries
 sizes sh n m e f = rw (over-limits, expr-count, f, e)
 
-exprs-stored : (es : List ℕ) (n : ℕ) → length (stored-exprs es n) ≡ n
-unfolding stored-exprs
-exprs-stored es n = length-table (stored-expr es) 0 n
-
-steps-stored : (ps : List ℕ) (n : ℕ) → length (stored-steps ps n) ≡ n
-unfolding stored-steps
-steps-stored ps n = length-table (stored-step ps) 0 n
-
 pub no-steps : (ps : List ℕ) (n : ℕ) → n ≡ 0 → stored-steps ps n ≡ []
 unfolding stored-steps table
 no-steps ps n e = rw e
@@ -233,14 +225,14 @@ module _ (es ps : List ℕ) (t : Tally) (snd : Sound es ps t) where
   unfolding with-expr
   expr-sizes e =
       sizes (with-expr e sh) (t .exprs + 1 + t .aggs) (t .steps)
-      (omega (arith, length-append (stored-exprs es (t .exprs)) (e ∷ []), exprs-stored es (t .exprs), snd .aggs)) (steps-stored ps (t .steps))
+      (omega (arith, length-append (stored-exprs es (t .exprs)) (e ∷ []), length-exprs es (t .exprs), snd .aggs)) (length-steps ps (t .steps))
 
   step-sizes : (s : Step) → over-limits (with-step s sh) ≡ (ltb 32 (t .steps + 1) || ltb 128 (t .exprs + (t .aggs + entries s)))
   unfolding with-step
   step-sizes s =
       sizes (with-step s sh) (t .exprs + (t .aggs + entries s)) (t .steps + 1)
-      (omega (arith, exprs-stored es (t .exprs), agg-more (stored-steps ps (t .steps)) s, snd .aggs))
-      (length-append (stored-steps ps (t .steps)) (s ∷ []) ∙ ap (λ n. n + 1) (steps-stored ps (t .steps)))
+      (omega (arith, length-exprs es (t .exprs), agg-more (stored-steps ps (t .steps)) s, snd .aggs))
+      (length-append (stored-steps ps (t .steps)) (s ∷ []) ∙ ap (λ n. n + 1) (length-steps ps (t .steps)))
 
   pub none-before : t .steps ≡ 0 → empty? (sh .steps) ≡ true
   none-before h = rw (no-steps ps (t .steps) h)

@@ -7,20 +7,17 @@ use Prim.Native.Nat.{ℕ, suc, _+_, _-_, _<_, _≤_}
 use native.Mathlib.Omega.{arith}
 use lib.Dec.{eqb, ltb}
 use lib.ListN.{length, getD, take, drop, set, length-drop, length-append, length-set, List·getD-append}
-use lib.Seq.{take-all, getD-set-same, getD-set-other, getD-append-seam}
+use lib.Seq.{getD-set-same, getD-set-other, getD-append-seam}
 use native.Mathlib.Decide.{ℕ-discrete}
 use native.Mathlib.Nat.{le-refl, not-suc-le-zero}
 use borrow.Author.Tests.{ltb-true, ltb-false, eq-eqb, ne-eqb, eqb-true}
 use Rattle.plan.specs.Lists.{if_then_else_}
 use Rattle.plan.specs.Sheet.{parts, onto, numbers, number, cons?}
+use Rattle.plan.specs.ListLaws.{part-from}
 use Rattle.reading.specs.Number.{separator?, field, number-at, found, width}
 use Rattle.reading.specs.Line.{line, ended, numbers-after, numbers-of, field-of, field-at, placed, Kept, Numbers-read}
 use Rattle.reading.specs.declared.number.Number.{Number}
 use Rattle.reading.specs.declared.line.Field.{Field}
-
--- the part of a slice from a place on
-pub part-from : (s : List ℕ) (a : ℕ) → take (length s - a) (drop a s) ≡ drop a s
-part-from s a = take-all (length s - a) (drop a s) (omega (arith, length-drop a s))
 
 pub length-from : (s : List ℕ) (a : ℕ) → length (take (length s - a) (drop a s)) ≡ length s - a
 length-from s a = ap length (part-from s a) ∙ length-drop a s

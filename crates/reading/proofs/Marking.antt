@@ -17,11 +17,11 @@ use Rattle.plan.specs.Lists.{all?, numbered, among, times, rest, if_then_else_}
 use Rattle.plan.specs.Sheet.{Expr, expr-at, no-expr}
 use Rattle.plan.specs.Faults.{children-earlier, evaluated, fields-right}
 use Rattle.plan.specs.Stored.{stored-expr, stored-exprs}
-use Rattle.plan.specs.StoredLaws.{length-table}
+use Rattle.plan.specs.StoredLaws.{length-table, table-at}
 use Rattle.reading.specs.Held.{children-of, Exprs-held}
 use Rattle.reading.specs.Uses.{Counted}
 use Rattle.reading.specs.Marks.{marked-by, markings, field-marked}
-use Rattle.reading.proofs.Scans.{children-are, kind-of, expr-kind-is, table-at}
+use Rattle.reading.proofs.Scans.{children-are, kind-of, expr-kind-is}
 use Rattle.reading.proofs.Names.{at-least}
 use Rattle.reading.proofs.Members.{In, there, not-in-none, in-left, in-right, in-either, times-in, in-times, same-tests, all-numbered-same, earlier, held, evaluation, downward, only, here}
 
@@ -106,7 +106,7 @@ module _ (es : List ℕ) (n : ℕ) where
 
   at : (p : ℕ) → p < n → expr-at E p ≡ stored-expr es p
   unfolding stored-exprs
-  at p h = table-at (stored-expr es) 0 n p no-expr h ∙ ap (stored-expr es) (omega arith)
+  at p h = table-at (stored-expr es) n p no-expr h
 
   module _ (early : all? children-earlier (numbered 0 E) ≡ true) where
     by-line : (names : List ℕ) (p q : ℕ) → p < n → In q (marked-by es names p)

@@ -17,6 +17,7 @@ use Rattle.plan.specs.Sheet.{Expr, Step}
 use Rattle.plan.specs.Faults.{exprs-named, named, cache-ids, uses-right}
 use Rattle.plan.specs.Stored.{stored-expr, stored-step, stored-exprs, stored-steps, table}
 use Rattle.plan.specs.StoredLaws.{table-more}
+use Rattle.plan.specs.ListLaws.{sum-append}
 use Rattle.reading.specs.Held.{children-of, count-of, both, sheet}
 use Rattle.reading.specs.Uses.{capped, Counted, all-children, all-both, id-of, used, exprs-once, steps-used, ids-once, once-in, used-in, id-once-in}
 use Rattle.reading.proofs.Scans.{children-are, inputs-are, both-are, step-kind, step-a, step-kind-is}
@@ -52,11 +53,6 @@ unfolding capped
 at-most zero = refl
 at-most (suc zero) = refl
 at-most (suc (suc n)) = sym (lt-leb (suc (suc n)) 1 (omega arith))
-
-sum-append : {A : Type 0} (f : A → ℕ) (l m : List A) → sum f (l ++ m) ≡ sum f l + sum f m
-unfolding sum
-sum-append f [] m = omega arith
-sum-append f (x ∷ l) m = ap (λ n. f x + n) (sum-append f l m) ∙ omega arith
 
 times-one : (i q : ℕ) (names : List ℕ) → times i (names ++ (q ∷ [])) ≡ times i names + (if eqb i q then 1 else 0)
 unfolding sum

@@ -1,6 +1,6 @@
 -- The plan of a sheet.
 use mathlib.Core.Path.{_≡_, refl, sym, ap, _∙_, subst}
-use mathlib.Core.Bool.{Bool, true, false, _&&_}
+use mathlib.Core.Bool.{Bool, true, false}
 use mathlib.Core.List.{List}
 use Prim.Native.Nat.{ℕ, _<_, _≤_}
 use native.Mathlib.Omega.{arith}
@@ -9,16 +9,16 @@ use borrow.Author.Tests.{lt-ltb, le-ltb}
 use Rattle.plan.specs.Lists.{all?, numbered}
 use Rattle.plan.specs.Sheet.{Sheet, Outcome, refused, done, _then_, refuse_when_else_, read, read-lines, parts, no-lines, no-plan}
 use Rattle.plan.specs.Faults.{checked, references-right, uses-right, fields-right, children-earlier}
-use Rattle.plan.specs.Stored.{stored-expr, stored-step, stored-exprs, stored-steps}
+use Rattle.plan.specs.Stored.{stored-expr, stored-step, stored-exprs, stored-steps, Steps-held}
 use Rattle.plan.specs.StoredLaws.{length-table}
-use Rattle.reading.specs.Held.{Exprs-held, Steps-held, sheet}
+use Rattle.reading.specs.Held.{Exprs-held, sheet}
 use Rattle.reading.specs.Lines.{Sound, All-taken, Lines-read}
 use Rattle.reading.specs.Plan.{plan-of, checked-plan, Plan-is}
 use Rattle.reading.specs.declared.lines.Tally.{Tally}
 use Rattle.reading.specs.declared.lines.Lines.{Lines}
 use Rattle.reading.specs.declared.Plan.{Plan}
 use Rattle.reading.specs.declared.Plan.the-variants.{Taken, Refused}
-use Rattle.reading.proofs.Checks.{no-steps, some-steps}
+use Rattle.reading.proofs.Checks.{first-holds, no-steps, some-steps}
 
 -- What comes after the last line ---------------------------------------------------------------------------------------------
 
@@ -46,11 +46,7 @@ module _ (es ps : List ℕ) (n m : ℕ) where
 
       pub children-early : all? children-earlier (numbered 0 (stored-exprs es n)) ≡ true
       unfolding references-right
-      children-early = first (all? children-earlier (numbered 0 (stored-exprs es n))) _ _ (sym e ∙ f)
-        where
-          first : (a b c : Bool) → (a && b && c) ≡ true → a ≡ true
-          first true b c e = refl
-          first false b c e = e
+      children-early = first-holds (all? children-earlier (numbered 0 (stored-exprs es n))) _ _ (sym e ∙ f)
 
       module _ {b : Bool} (g : b ≡ uses-right sh) (k : b ≡ true) where
         pub bad-field : {c : Bool} → c ≡ fields-right (stored-exprs es n) → c ≡ false → checked-plan sh ≡ refused 9
@@ -104,12 +100,8 @@ module _ (s : List ℕ) (h : length s ≤ 16384) where
 pub held-exprs : {es ps : List ℕ} {t : Tally} → Sound es ps t → Exprs-held es (t .exprs)
 held-exprs s = record { few = (let h = s .few-exprs in omega arith); formed = s .exprs }
 
-pub held-steps : {es ps : List ℕ} {t : Tally} → Sound es ps t → Steps-held ps (t .steps)
-held-steps s =
-    record {
-      few = s .few-steps;
-      each = λ i h. record { few = (let f = s .few-steps in omega arith); formed = s .steps i h };
-    }
+pub held-steps : {es ps : List ℕ} {t : Tally} → Sound es ps t → length ps ≡ 1024 → Steps-held ps (t .steps)
+held-steps s size = record { few = s .few-steps; size = size; formed = s .steps }
 
 pub refused-is : (s es ps : List ℕ) (r : Lines) (k : ℕ) → Lines-read s es ps r → r ≡ Lines.Refused k → read-lines (parts 10 s) no-lines ≡ refused k
 refused-is s es ps r k l e = subst (λ x. Lines-read s es ps x) e l

@@ -13,9 +13,9 @@ use Rattle.plan.specs.Lists.{all?, numbered}
 use Rattle.plan.specs.Sheet.{Expr, Step, step-at, no-step}
 use Rattle.plan.specs.Faults.{children-earlier, inputs-earlier, exprs-there, references-right}
 use Rattle.plan.specs.Stored.{stored-expr, stored-step, stored-exprs, stored-steps}
-use Rattle.plan.specs.StoredLaws.{length-table}
+use Rattle.plan.specs.StoredLaws.{length-table, table-at}
 use Rattle.reading.specs.Held.{children-of, count-of, both, before-no-sink, sheet}
-use Rattle.reading.proofs.Scans.{children-are, inputs-are, both-are, step-kind, step-kind-is, table-at, lines-from, from-first}
+use Rattle.reading.proofs.Scans.{children-are, inputs-are, both-are, step-kind, step-kind-is, lines-from, from-first}
 
 pub all-same : {A : Type 0} (f g : A → Bool) → ((x : A) → f x ≡ g x) → (l : List A) → all? f l ≡ all? g l
 unfolding all?
@@ -42,7 +42,7 @@ exprs-found ps i c n1 n2 n3 r e f g h = h ∙ ap (all? (λ q. ltb q c)) (rw (e, 
 sink-at : (ps : List ℕ) (n m : ℕ) → m < n → same-ir (step-at (stored-steps ps n) m .kind) IR.Sink ≡ eqb (getD ps (m * 32) 0) 2
 unfolding stored-steps
 sink-at ps n m h =
-    ap (λ (s : Step). same-ir (s .kind) IR.Sink) (table-at (stored-step ps) 0 n m no-step h ∙ ap (stored-step ps) (omega arith))
+    ap (λ (s : Step). same-ir (s .kind) IR.Sink) (table-at (stored-step ps) n m no-step h)
     ∙ ap (λ k. same-ir k IR.Sink) (step-kind ps m)
     ∙ step-kind-is (getD ps (m * 32) 0) 2 (omega arith) (omega arith)
 

@@ -2,13 +2,12 @@
 use mathlib.Core.Path.{_≡_, sym, ap, _∙_}
 use mathlib.Core.Bool.{Bool, true, false, _&&_}
 use mathlib.Core.List.{List, [], _∷_, _++_}
-use Prim.Native.Nat.{ℕ, zero, suc, _+_, _*_, _-_, _<_, _≤_}
+use Prim.Native.Nat.{ℕ, suc, _+_, _*_, _-_, _<_, _≤_}
 use native.Mathlib.Numerals.{add-one}
 use native.Mathlib.Omega.{arith}
-use native.Mathlib.Nat.{suc-add}
 use lib.Dec.{eqb}
 use lib.ListN.{length, getD, take, drop, List·getD-eq-default}
-use lib.Seq.{take-nil, drop-cons, drop-drop, getD-take, getD-drop, take-add}
+use lib.Seq.{drop-cons, drop-drop, getD-take, getD-drop, take-add}
 use native.Mathlib.Decide.{decLe}
 use borrow.Author.Tests.{ne-eqb}
 use Rattle.plan.specs.declared.aexpr.AExpr.{AExpr}
@@ -18,6 +17,7 @@ use Rattle.plan.specs.KindNumbers.{aexpr-there, ir-there}
 use Rattle.plan.specs.Lists.{all?, numbered}
 use Rattle.plan.specs.Sheet.{expr-of, step-of}
 use Rattle.plan.specs.Stored.{stored-expr, stored-step, table}
+use Rattle.plan.specs.ListLaws.{drop-take}
 use Rattle.reading.specs.Held.{children-of, count-of, both}
 
 -- a count that goes down as an index goes up
@@ -92,11 +92,6 @@ module _ {A : Type 0} (f : ℕ × A → Bool) (g : ℕ → A) (n : ℕ) where
 
 -- The lists of stored lines --------------------------------------------------------------------------------------------------
 
-drop-take : (a m : ℕ) (l : List ℕ) → drop a (take (a + m) l) ≡ take m (drop a l)
-drop-take zero m l = let e : 0 + m ≡ m = omega arith in rw e
-drop-take (suc a) m [] = ap (drop (suc a)) (take-nil (suc a + m)) ∙ sym (take-nil m)
-drop-take (suc a) m (x ∷ l) = ap (λ n. drop (suc a) (take n (x ∷ l))) (suc-add a m) ∙ drop-take a m l
-
 pub children-are : (es : List ℕ) (i : ℕ) → stored-expr es i .children ≡ take (children-of es i) (drop (i * 16 + 4) es)
 unfolding stored-expr expr-of
 children-are es i = drop-take 4 (children-of es i) (drop (i * 16) es) ∙ ap (take (children-of es i)) (drop-drop 4 (i * 16) es)
@@ -136,13 +131,6 @@ module _ (ps : List ℕ) (i : ℕ) where
       rw (first-are, second-are)
       (sym (take-add (count-of 5 ps i) (count-of 6 ps i) (drop (i * 32 + 7 + count-of 4 ps i) ps)
       ∙ ap (λ l. take (count-of 5 ps i) (drop (i * 32 + 7 + count-of 4 ps i) ps) ++ take (count-of 6 ps i) l) (drop-drop (count-of 5 ps i) (i * 32 + 7 + count-of 4 ps i) ps)))
-
--- a stored line by its index
-pub table-at : {A : Type 0} (g : ℕ → A) (k n i : ℕ) (d : A) → i < n → getD (table g k n) i d ≡ g (k + i)
-unfolding table
-table-at g k zero i d h = absurd (omega arith)
-table-at g k (suc n) zero d h = ap g (omega arith)
-table-at g k (suc n) (suc i) d h = table-at g (suc k) n i d (omega arith) ∙ ap g (omega arith)
 
 -- a kind by its number, but the first, which stands for what is past the table too
 pub step-kind-is : (k n : ℕ) → 0 < n → n < 19 → eqb (ir-number (ir k)) n ≡ eqb k n

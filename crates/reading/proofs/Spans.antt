@@ -8,14 +8,7 @@ use native.Mathlib.Decide.{decLe}
 use lib.Dec.{T}
 use borrow.Author.Tests.{ne-eqb}
 use Rattle.plan.specs.Lists.{any?, among}
-
-pub and-left : (a b : Bool) → T (a && b) → T a
-and-left true b t = tt
-and-left false b t = t
-
-pub and-right : (a b : Bool) → T (a && b) → T b
-and-right true b t = t
-and-right false b t = absurd t
+use Rattle.plan.specs.ListLaws.{and-left, and-right}
 
 pub or-left : (a : Bool) {b : Bool} → b ≡ false → T (a || b) → T a
 or-left true e t = tt

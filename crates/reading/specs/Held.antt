@@ -22,10 +22,6 @@ pub record Step-held (ps : List ℕ) (i : ℕ) : Type 0 where
   pub few : i < 32
   pub formed : Step-formed ps i
 
-pub record Steps-held (ps : List ℕ) (n : ℕ) : Type 0 where
-  pub few : n ≤ 32
-  pub each : (i : ℕ) → i < n → Step-held ps i
-
 -- the lines held
 abbrev pub sheet : List ℕ → ℕ → List ℕ → ℕ → Sheet
 sheet es n ps m = record { exprs = stored-exprs es n; steps = stored-steps ps m }

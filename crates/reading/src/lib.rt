@@ -1,7 +1,9 @@
 // From the bytes of a sheet to its plan: refusals 2 to 9 of document 01.
-ghost use Rattle.reading.specs.Held.{Exprs-held, Steps-held, sheet};
+ghost use Rattle.plan.specs.Stored.{Steps-held};
+ghost use Rattle.reading.specs.Held.{Exprs-held, sheet};
 ghost use Rattle.reading.specs.Plan.{checked-plan, plan-of, Plan-is, Plan-held};
 use crate::lines::Lines;
+use plan::sizes::size_1024;
 
 pub mod fields; // fields.rt: struct fields under an evaluation child
 pub mod line; // line.rt: the numbers of a line
@@ -56,6 +58,9 @@ pub fn read_plan(sheet: &[u8], exprs: &mut [u8; 2048], steps: &mut [u8; 1024]) -
     }
     match crate::lines::read_lines(sheet, exprs, steps) {
         Lines::Refused(k) => Plan::Refused(k),
-        Lines::Read(t) => check_plan(exprs, t.exprs, steps, t.steps),
+        Lines::Read(t) => {
+            size_1024(steps);
+            check_plan(exprs, t.exprs, steps, t.steps)
+        }
     }
 }

@@ -14,9 +14,11 @@ use Rattle.plan.specs.Visit.{Run}
 use Rattle.plan.specs.Walks.{walk, begin, down, up, simplify-and-fetch-orderings}
 use Rattle.claims.specs.WellFormed.{WellFormed}
 use Rattle.claims.proofs.Visitables.{Going, going-begin, going-half}
+use Rattle.tally.specs.declared.Tally.{Tally}
+use Rattle.simplify_ordering.specs.declared.walks.Orderings.{Orderings}
 use Rattle.simplify_ordering.specs.declared.walks.Walked.{Walked}
 use Rattle.simplify_ordering.specs.Run.{run-of}
-use Rattle.simplify_ordering.specs.Walks.{Walk-asks, Walk-gives, sheet-of, Fetch-asks}
+use Rattle.simplify_ordering.specs.Walks.{Walk-asks, Walk-gives, sheet-of, Fetch-asks, Down-gives, Answers, stopped, ended, Orderings-are, Orderings-held}
 
 module _ (sh : Sheet) (wf : WellFormed sh) (before : List ℕ → List ℕ → Run) (begins : before [] [] ≡ begin sh) (ns : List ℕ) (places : ns ≡ graph (sh .steps) .0) where
   pub down-asks : Walk-asks ns before
@@ -34,48 +36,57 @@ module _ (sh : Sheet) (wf : WellFormed sh) (before : List ℕ → List ℕ → R
   down-is = rw (places, begins)
 
   -- the downward walk ended at r
-  module _ (half : List ℕ → List ℕ → Run) (backs : (b d : List ℕ) → half b d .back ≡ b) (w r : Walked) (pushed : List ℕ) (g : Walk-gives ns before half w r pushed) where
-    pub down-refused : r .refused ≢ 0 → simplify-and-fetch-orderings sh ≡ refused (r .refused)
-    unfolding simplify-and-fetch-orderings _then_
-    down-refused k = ap (λ (o : Outcome Run). o then up) (sym down-is ∙ g .refusal k [] [])
+  pub down-given : (half : List ℕ → List ℕ → Run) (w r : Walked) (pushed : List ℕ) → Walk-gives ns before half w r pushed → w .removed ≡ 0
+      → Down-gives sh half r pushed
+  down-given half w r pushed g none =
+      record {
+        gone = g .gone;
+        count = omega (arith, none, g .count);
+        is = λ z. sym down-is ∙ g .is z [] [] ∙ ap (λ (x : List ℕ). done (half x (g .gone ++ []))) (append-nil pushed) ∙ ap (λ (x : List ℕ). done (half pushed x)) (append-nil (g .gone));
+        refusal = λ k. sym down-is ∙ g .refusal k [] [];
+      }
 
-    module _ (z : r .refused ≡ 0) where
-      abbrev h : Run
-      h = half (pushed ++ []) (g .gone ++ [])
+module _ (sh : Sheet) (half : List ℕ → List ℕ → Run) (r : Walked) (pushed : List ℕ) (g : Down-gives sh half r pushed) where
+  pub down-refused : r .refused ≢ 0 → simplify-and-fetch-orderings sh ≡ refused (r .refused)
+  unfolding simplify-and-fetch-orderings _then_
+  down-refused k = ap (λ (o : Outcome Run). o then up) (g .refusal k)
 
-      half-is : down sh ≡ done h
-      half-is = sym down-is ∙ g .is z [] []
+  module _ (wf : WellFormed sh) (backs : (b d : List ℕ) → half b d .back ≡ b) (z : r .refused ≡ 0) where
+    abbrev h : Run
+    h = half pushed (g .gone)
 
-      along : h .back ≡ pushed
-      along = backs (pushed ++ []) (g .gone ++ []) ∙ append-nil pushed
+    pub up-asks : Walk-asks pushed half
+    up-asks =
+        record {
+          most = 576;
+          few = omega arith;
+          back = pushed;
+          removed = g .gone;
+          going = subst (λ (x : List ℕ). Going 576 x h) (backs pushed (g .gone)) (going-half sh wf h (g .is z));
+        }
 
-      pub up-asks : Walk-asks pushed half
-      up-asks =
-          record {
-            most = 576;
-            few = omega arith;
-            back = pushed ++ [];
-            removed = g .gone ++ [];
-            going = subst (λ (x : List ℕ). Going 576 x h) along (going-half sh wf h half-is);
-          }
+    -- and the upward walk at r′. `after` gives the run from the arena's length, the two lists and the tally
+    module _ (after : ℕ → List ℕ → List ℕ → Tally → Run) (r′ : Walked) (pushed′ : List ℕ)
+        (g′ : Walk-gives pushed half (λ b d. after (r′ .exprs) b d (r′ .tally)) r r′ pushed′) where
+      up-is : simplify-and-fetch-orderings sh ≡ walk pushed h
+      unfolding simplify-and-fetch-orderings _then_ up
+      up-is = ap (λ (o : Outcome Run). o then up) (g .is z) ∙ ap (λ (x : List ℕ). walk x h) (backs pushed (g .gone))
 
-      -- and the upward walk at r′
-      module _ (whole : List ℕ → List ℕ → Run) (r′ : Walked) (pushed′ : List ℕ) (g′ : Walk-gives pushed half whole r r′ pushed′) where
-        up-is : simplify-and-fetch-orderings sh ≡ walk pushed h
-        unfolding simplify-and-fetch-orderings _then_ up
-        up-is = ap (λ (o : Outcome Run). o then up) half-is ∙ ap (λ (x : List ℕ). walk x h) along
+      pub answered : {a : Orderings} → Answers r′ a → Orderings-are (simplify-and-fetch-orderings sh) after a
+      answered (stopped k e) =
+          subst (Orderings-are (simplify-and-fetch-orderings sh) after) (sym e) (up-is ∙ g′ .refusal k pushed (g .gone))
+      answered (ended z′ e) =
+          subst (Orderings-are (simplify-and-fetch-orderings sh) after) (sym e) (
+            pushed′ ++ pushed,
+            g′ .gone ++ g .gone,
+            up-is ∙ g′ .is z′ pushed (g .gone),
+            omega (arith, g .count, g′ .count, length-append (g′ .gone) (g .gone)),
+          )
 
-        pub up-refused : r′ .refused ≢ 0 → simplify-and-fetch-orderings sh ≡ refused (r′ .refused)
-        up-refused k = up-is ∙ g′ .refusal k (pushed ++ []) (g .gone ++ [])
-
-        pub fetched : r′ .refused ≡ 0 → w .removed ≡ 0
-            → (back : List ℕ) × (gone : List ℕ) × (simplify-and-fetch-orderings sh ≡ done (whole back gone)) × (r′ .removed ≡ length gone)
-        fetched z′ none = (
-          pushed′ ++ (pushed ++ []),
-          g′ .gone ++ (g .gone ++ []),
-          up-is ∙ g′ .is z′ (pushed ++ []) (g .gone ++ []),
-          omega (arith, none, g .count, g′ .count, length-append (g′ .gone) (g .gone ++ []), ap length (append-nil (g .gone))),
-        )
+-- what the upward walk leaves, if it came to its end
+pub answer-held : (held : ℕ → Type 0) (w : Walked) {a : Orderings} → held (w .exprs) → Answers w a → Orderings-held held a
+answer-held held w h (stopped k e) = subst (Orderings-held held) (sym e) tt
+answer-held held w h (ended z e) = subst (Orderings-held held) (sym e) h
 
 -- The places stored in the array from `at` on ---------------------------------------------------------------------------------------------
 

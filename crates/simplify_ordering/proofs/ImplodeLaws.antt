@@ -12,13 +12,13 @@ use Rattle.plan.specs.Lists.{if_then_else_}
 use Rattle.plan.specs.Sheet.{Expr, Step, no-expr, no-step, expr-at, step-at}
 use Rattle.plan.specs.Look.{switched-off}
 use Rattle.plan.specs.Stored.{stored-expr, held-expr, arena-of, Expr-formed}
-use Rattle.plan.specs.StoredLaws.{length-table, table-at}
+use Rattle.plan.specs.StoredLaws.{table-at}
 use Rattle.plan.specs.StoredAppend.{with-implode, arena-appended, others-kept, implode-stored, old-formed, new-formed}
 use Rattle.plan.specs.Visit.{implode, implode-over, with-aggs}
 use Rattle.expr.specs.State.{Falls, sorts}
 use Rattle.expr.proofs.Records.{stored}
 use Rattle.simplify_ordering.specs.Arena.{Arena-held}
-use Rattle.simplify_ordering.specs.Held.{with-agg}
+use Rattle.node_rules.specs.Held.{with-agg}
 
 module _ (recs line : List ℕ) (off : List Bool) (n q : ℕ) (held : Arena-held recs line off n) (more : n < 128) (lower : q < n) where
   -- the six bytes, with the first at p
@@ -113,10 +113,6 @@ module _ (q : ℕ) (es : List Expr) where
   pub implode-other : expr-at es q .scalar ≡ false → implode q es ≡ (length es, es ++ (implode-over q ∷ []))
   unfolding implode
   implode-other h = rw h
-
-pub length-arena : (recs line : List ℕ) (off : List Bool) (n : ℕ) → length (arena-of recs line off n) ≡ n
-unfolding arena-of
-length-arena recs line off n = length-table (held-expr recs line off) 0 n
 
 pub agg-same : (i k q : ℕ) (ps : List Step) → q ≡ getD (step-at ps i .aggs) k 0 → ps ≡ with-agg i k q ps
 agg-same i k q ps e =

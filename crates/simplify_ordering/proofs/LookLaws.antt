@@ -13,20 +13,20 @@ use Rattle.plan.specs.Kinds.{ir-number}
 use Rattle.plan.specs.Sheet.{Expr, Step, no-step, step-at}
 use Rattle.plan.specs.Look.{simplify-projected-exprs}
 use Rattle.plan.specs.Look as plan
-use Rattle.plan.specs.Stored.{arena-of, stored-steps}
+use Rattle.plan.specs.Stored.{arena-of, stored-steps, Steps-held}
 use Rattle.plan.specs.Visit.{expr-order-simplifier, imploded, with-implodes, with-aggs, allow-deordering-top, looks-of}
 use Rattle.plan.specs.Visit as Visit
+use Rattle.plan.specs.StoredLaws.{length-arena}
 use Rattle.claims.proofs.Counts.{mem-at}
 use Rattle.tally.specs.declared.Tally.{Tally}
 use Rattle.expr.specs.Contract.{looked-of}
 use Rattle.expr.specs.Projected.{Started, ListAsks, ListGives}
 use Rattle.expr.specs.State.{State, eos-of, Falls, Formed}
 use Rattle.simplify_ordering.specs.declared.looks.Looked.{Looked}
-use Rattle.simplify_ordering.specs.declared.steps.Entries.{Entries}
+use Rattle.node_rules.specs.declared.steps.Entries.{Entries}
 use Rattle.simplify_ordering.specs.Arena.{Arena-held}
-use Rattle.simplify_ordering.specs.Held.{step-of, options-of, observable-of, Steps-held, Is-list}
+use Rattle.node_rules.specs.Held.{step-of, options-of, observable-of, Is-list}
 use Rattle.simplify_ordering.specs.Looks.{first, second, Lists-ask, Lists-give, Listed, Looks-give}
-use Rattle.simplify_ordering.proofs.ImplodeLaws.{length-arena}
 
 falls-below : (n : ℕ) (xs : List ℕ) → ((q : ℕ) → List·Memᴰ q xs → q < n) → Falls n xs
 falls-below n xs there = record { child = λ k h. there (getD xs k 0) (mem-at xs k 0 h) }

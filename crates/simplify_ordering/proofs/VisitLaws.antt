@@ -15,19 +15,20 @@ use Rattle.plan.specs.Kinds.{same-ir}
 use Rattle.plan.specs.Lists.{if_then_else_, yes?}
 use Rattle.plan.specs.Sheet.{Expr, Step, no-step, Outcome, refused, done, step-at}
 use Rattle.plan.specs.Graph.{Edge}
-use Rattle.plan.specs.Visit.{Run, Around, Observable, Looked, around, with-implodes, with-aggs, looks-of, looked-in, rule, ruling, refusal-in, settled, settle, goes, unlink-node, one-visit, simplify-ir-node-orders}
+use Rattle.plan.specs.Visit.{Run, Around, Observable, Looked, around, with-aggs, looks-of, looked-in, rule, ruling, refusal-in, settled, settle, goes, unlink-node, one-visit, simplify-ir-node-orders}
 use Rattle.plan.specs.Visit as Visit
 use Rattle.plan.specs.Visit.{no-edge}
-use Rattle.plan.specs.StoredLaws.{length-table, table-at}
+use Rattle.plan.specs.StoredLaws.{length-table, table-at, length-steps}
 use Rattle.tally.specs.declared.Tally.{Tally}
-use Rattle.simplify_ordering.specs.declared.around.Around as code
-use Rattle.simplify_ordering.specs.declared.rules.Options.{Options}
-use Rattle.simplify_ordering.specs.Held.{around-of, options-of, Unlinked, Unlinkable, Edges-held, held-edge, held-edges}
+use Rattle.node_rules.specs.declared.around.Around as code
+use Rattle.node_rules.specs.declared.rules.Options.{Options}
+use Rattle.node_rules.specs.Held.{around-of, options-of, Unlinked, Unlinkable, Edges-held, held-edge, held-edges}
 use Rattle.simplify_ordering.specs.Looks.{Listed}
 use Rattle.simplify_ordering.specs.Run.{run-of, Run-held, refusal-number, Ruled-by, Settle-asks}
-use Rattle.simplify_ordering.proofs.StepLaws.{length-steps, its-n1}
-use Rattle.simplify_ordering.proofs.UnlinkLaws.{first-input}
+use Rattle.node_rules.proofs.StepLaws.{its-n1}
+use Rattle.node_rules.proofs.UnlinkLaws.{first-input}
 use Rattle.claims.proofs.Stays.{goes-sort}
+use Rattle.claims.proofs.Visitables.{merge-unimploded}
 use Rattle.claims.proofs.Counts.{true-of}
 use Rattle.simplify_ordering.proofs.ImplodesLaws.{longer-start}
 use Rattle.claims.specs.Visitable.{Visitable}
@@ -38,10 +39,6 @@ state es ps ds back removed visits looks =
     record { arena = es; steps = ps; edges = ds; back = back; removed = removed; visits = visits; looks = looks }
 
 -- A visit that removes nothing ---------------------------------------------------------------------------------------------------------
-
-plain-merge : (s : Step) (es : List Expr) → s .kind ≡ IR.MergeSorted → with-implodes s es .0 ≡ s .aggs
-unfolding with-implodes
-plain-merge s es k = rw k
 
 module _ (es : List Expr) (ps : List Step) (ds : List Edge) (n : ℕ) (visits looks : ℕ) (here : n < length ps) where
   abbrev l : Looked
@@ -59,7 +56,7 @@ module _ (es : List Expr) (ps : List Step) (ds : List Edge) (n : ℕ) (visits lo
     pub merges-now : (step-at ps n .kind ≡ IR.MergeSorted → (step-at ps n .exprs ≡ []) × (step-at ps n .aggs ≡ []))
         → step-at ps₁ n .kind ≡ IR.MergeSorted → (step-at ps₁ n .exprs ≡ []) × (step-at ps₁ n .aggs ≡ [])
     unfolding looks-of
-    merges-now h = rw step-now (λ k. (h k .0, plain-merge (step-at ps n) es k ∙ h k .1))
+    merges-now h = rw step-now (λ k. (h k .0, merge-unimploded (step-at ps n) es k ∙ h k .1))
 
     -- o is what was observed, k the number that the code gave
     module _ (o : Observable) (seen : o ≡ l .observable) (k : ℕ) (number : k ≡ refusal-number (step-at ps₁ n) o) (back removed : List ℕ) where

@@ -1,4 +1,3 @@
-pub mod Held
 pub mod Arena
 pub mod Looks
 pub mod Run

@@ -7,14 +7,14 @@ use lib.ListN.{length, set}
 use Rattle.plan.specs.declared.orders.ObservableOrders.{ObservableOrders}
 use Rattle.plan.specs.Sheet.{Expr, Step, step-at}
 use Rattle.plan.specs.Look.{Eos, simplify-projected-exprs}
-use Rattle.plan.specs.Stored.{arena-of, stored-steps}
+use Rattle.plan.specs.Stored.{arena-of, stored-steps, Steps-held}
 use Rattle.plan.specs.Visit.{expr-order-simplifier}
 use Rattle.plan.specs.Visit as Visit
 use Rattle.tally.specs.declared.Tally.{Tally}
 use Rattle.simplify_ordering.specs.declared.looks.Looked.{Looked}
-use Rattle.simplify_ordering.specs.declared.steps.Entries.{Entries}
+use Rattle.node_rules.specs.declared.steps.Entries.{Entries}
 use Rattle.simplify_ordering.specs.Arena.{Arena-held}
-use Rattle.simplify_ordering.specs.Held.{observable-of, Steps-held, Is-list}
+use Rattle.node_rules.specs.Held.{observable-of, Is-list}
 
 -- The two lists xs and ys, from an arena and a tally -----------------------------------------------------------------------------------
 

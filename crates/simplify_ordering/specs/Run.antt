@@ -8,14 +8,14 @@ use Rattle.plan.specs.declared.ir.IR.{IR}
 use Rattle.plan.specs.Lists.{if_then_else_}
 use Rattle.plan.specs.Sheet.{Step, Outcome, refused, done, step-at}
 use Rattle.plan.specs.Graph.{Edge}
-use Rattle.plan.specs.Stored.{arena-of, stored-steps}
+use Rattle.plan.specs.Stored.{arena-of, stored-steps, Steps-held}
 use Rattle.plan.specs.Visit.{Run, rule, loosened, join-fails, sink-fails, looked-in}
 use Rattle.plan.specs.Visit as Visit
 use Rattle.tally.specs.declared.Tally.{Tally}
 use Rattle.simplify_ordering.specs.declared.visit.Visit.{Visit}
 use Rattle.simplify_ordering.specs.declared.visit.Visited.{Visited}
 use Rattle.simplify_ordering.specs.Arena.{Arena-held}
-use Rattle.simplify_ordering.specs.Held.{held-edges, Steps-held}
+use Rattle.node_rules.specs.Held.{held-edges}
 use Rattle.simplify_ordering.specs.Looks.{Listed}
 
 -- recs, line, off: the arena's first m lines. steps: n of them. consumer, slot, producer, unordered: so many edges. The places gone

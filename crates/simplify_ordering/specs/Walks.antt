@@ -8,14 +8,14 @@ use Rattle.plan.specs.Sheet.{Sheet, Outcome, refused, done}
 use Rattle.plan.specs.Graph.{graph}
 use Rattle.plan.specs.Stored.{arena-of, stored-steps}
 use Rattle.plan.specs.Visit.{Run, simplify-ir-node-orders}
-use Rattle.plan.specs.Walks.{walk}
+use Rattle.plan.specs.Walks.{walk, down}
 use Rattle.claims.specs.WellFormed.{WellFormed}
 use Rattle.claims.proofs.Visitables.{Going}
 use Rattle.tally.specs.declared.Tally.{Tally}
 use Rattle.simplify_ordering.specs.declared.walks.Fetched.{Fetched}
 use Rattle.simplify_ordering.specs.declared.walks.Orderings.{Orderings}
 use Rattle.simplify_ordering.specs.declared.walks.Walked.{Walked}
-use Rattle.simplify_ordering.specs.Held.{held-edges}
+use Rattle.node_rules.specs.Held.{held-edges}
 use Rattle.simplify_ordering.specs.Run.{run-of, Run-held}
 
 -- One place ----------------------------------------------------------------------------------------------------------------------------
@@ -60,6 +60,19 @@ pub record Fetch-asks (recs line : List ℕ) (off : List Bool) (m : ℕ) (steps 
   pub few : places ≤ 288
   pub places-are : take places list ≡ graph (stored-steps steps n) .0
   pub edges-are : held-edges consumer slot producer unordered edges ≡ graph (stored-steps steps n) .1
+
+-- the downward walk against the definition's: it was refused, or `pushed` are the places to go back along and `gone` the sorts that
+-- were removed. `half` gives the run from these two lists
+pub record Down-gives (sh : Sheet) (half : List ℕ → List ℕ → Run) (r : Walked) (pushed : List ℕ) : Type 0 where
+  pub gone : List ℕ
+  pub count : r .removed ≡ length gone
+  pub is : r .refused ≡ 0 → down sh ≡ done (half pushed gone)
+  pub refusal : (r .refused ≡ 0 → ⊥) → down sh ≡ refused (r .refused)
+
+-- the answer r from the end w of the upward walk
+pub data Answers (w : Walked) (r : Orderings) : Type 0 where
+  stopped : (w .refused ≡ 0 → ⊥) → r ≡ Orderings.Refused (w .refused) → Answers w r
+  ended : w .refused ≡ 0 → r ≡ Orderings.Fetched (record { exprs = w .exprs; removed = w .removed; tally = w .tally }) → Answers w r
 
 -- the code's answer against the definition's outcome. `after` gives the run from the arena's length, the two lists and the tally
 abbrev pub Orderings-are : Outcome Run → (ℕ → List ℕ → List ℕ → Tally → Run) → Orderings → Type 0

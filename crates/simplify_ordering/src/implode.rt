@@ -4,12 +4,12 @@ ghost use mathlib.Core.List.{[], _∷_, _++_, List·Memᴰ};
 ghost use Prim.Native.Nat.{ℕ, _+_, _*_, _≤_, _<_};
 ghost use lib.ListN.{length, getD, set};
 ghost use Rattle.plan.specs.Sheet.{expr-at, step-at};
-ghost use Rattle.plan.specs.Stored.{arena-of, stored-steps};
+ghost use Rattle.plan.specs.Stored.{arena-of, stored-steps, Steps-held};
 ghost use Rattle.plan.specs.Visit.{implode, imploded, implode-over, with-aggs};
 ghost use Rattle.simplify_ordering.specs.Arena.{Arena-held};
-ghost use Rattle.simplify_ordering.specs.Held.{Steps-held, with-agg};
-use crate::steps::aggs_of;
-use crate::store::store_agg;
+ghost use Rattle.node_rules.specs.Held.{with-agg};
+use node_rules::steps::aggs_of;
+use node_rules::store::store_agg;
 
 // Is line q's record a scalar? is_scalar_ae
 fn is_scalar_ae(recs: &[u8; 2048], line: &[u8; 128], off: &[bool; 128], n: usize, q: u8) -> bool

@@ -4,11 +4,14 @@ ghost use mathlib.Core.List.{List, []};
 ghost use Prim.Native.Nat.{ℕ, _+_, _-_, _≤_, _<_};
 ghost use lib.ListN.{length, take, drop};
 ghost use Rattle.claims.specs.Visitable.{Visitable};
+ghost use Rattle.plan.specs.Visit.{Run, simplify-ir-node-orders};
 ghost use Rattle.plan.specs.Walks.{simplify-and-fetch-orderings};
-ghost use Rattle.simplify_ordering.specs.Run.{run-of, Run-held};
-ghost use Rattle.simplify_ordering.specs.Walks.{Placed, Walk-asks, Walk-gives, sheet-of, Fetch-asks, Orderings-are, Orderings-held};
+ghost use Rattle.simplify_ordering.specs.Run.{run-of, Run-held, visited-of};
+ghost use Rattle.simplify_ordering.specs.Walks.{Placed, Walk-asks, Walk-gives, sheet-of, Fetch-asks, Down-gives, Answers, Orderings-are, Orderings-held};
+use crate::visit::Visit;
 use crate::visit::Visited;
 use crate::visit::simplify_ir_node_orders;
+use plan::sizes::size_288;
 use tally::Tally;
 
 // How far a walk has come.
@@ -35,7 +38,44 @@ pub enum Orderings {
     Refused(u8),
 }
 
-// What a visit to n leaves of a walk: a settled step is stored as a place to go back along, a removed sort is counted.
+// What the visit v to n leaves of a walk: a settled step is stored as a place to go back along, a removed sort is counted.
+fn place(back: &mut [u8; 288], n: u8, w: Walked, v: Visit) -> Walked
+    requires { ⌜ (1 ≤ w .at) × (w .at ≤ 288) × (length (now back) ≡ 288) × (w .removed < 18446744073709551615) ⌝ }
+    ensures { λ r. ⌜ ((before after : List ℕ → List ℕ → Run) → ((b d : List ℕ) → simplify-ir-node-orders n (before b d) ≡ visited-of (v .visited) n after b d) → Placed n before after w (now (back .entry)) r (now (back .exit))) ⌝ }
+    ensures { λ r. ⌜ (r .exprs ≡ v .exprs) × (r .tally ≡ v .tally) ⌝ }
+{
+    let tally = v.tally;
+    let visited = v.visited;
+    match visited {
+        Visited::Settled => {
+            let at = w.at - 1;
+            back[at] = n;
+            Walked {
+                refused: 0,
+                at: at,
+                removed: w.removed,
+                exprs: v.exprs,
+                tally: tally,
+            }
+        }
+        Visited::Removed => Walked {
+            refused: 0,
+            at: w.at,
+            removed: w.removed + 1,
+            exprs: v.exprs,
+            tally: tally,
+        },
+        Visited::Refused(k) => Walked {
+            refused: k,
+            at: w.at,
+            removed: w.removed,
+            exprs: v.exprs,
+            tally: tally,
+        },
+    }
+}
+
+// A visit to n, and what it leaves of a walk.
 fn visit_place(
     recs: &mut [u8; 2048],
     line: &mut [u8; 128],
@@ -72,35 +112,7 @@ fn visit_place(
         n,
         w.tally,
     );
-    let tally = v.tally;
-    let visited = v.visited;
-    match visited {
-        Visited::Settled => {
-            let at = w.at - 1;
-            back[at] = n;
-            Walked {
-                refused: 0,
-                at: at,
-                removed: w.removed,
-                exprs: v.exprs,
-                tally: tally,
-            }
-        }
-        Visited::Removed => Walked {
-            refused: 0,
-            at: w.at,
-            removed: w.removed + 1,
-            exprs: v.exprs,
-            tally: tally,
-        },
-        Visited::Refused(k) => Walked {
-            refused: k,
-            at: w.at,
-            removed: w.removed,
-            exprs: v.exprs,
-            tally: tally,
-        },
-    }
+    place(back, n, w, v)
 }
 
 // Along the places of `list` from `from` up to `to`, until one is refused.
@@ -154,11 +166,57 @@ fn walk(
     r
 }
 
-// The length of the list, which its type says, as a fact for proofs. It does nothing.
-fn size_288(a: &[u8; 288])
-    ensures { λ r. ⌜ length (now (a .entry)) ≡ 288 ⌝ }
+// The downward walk: along the visiting list, with nothing counted yet.
+fn walk_down(
+    recs: &mut [u8; 2048],
+    line: &mut [u8; 128],
+    off: &mut [bool; 128],
+    exprs: usize,
+    steps: &mut [u8; 1024],
+    n_steps: usize,
+    consumer: &[u8; 256],
+    slot: &[u8; 256],
+    producer: &mut [u8; 256],
+    unordered: &mut [bool; 256],
+    edges: usize,
+    list: &[u8; 288],
+    places: usize,
+    back: &mut [u8; 288],
+) -> Walked
+    requires { ⌜ Fetch-asks (now recs) (now line) (now off) exprs (now steps) «n_steps» (now consumer) (now slot) (now producer) (now unordered) edges (now list) places ⌝ }
+    requires { ⌜ length (now back) ≡ 288 ⌝ }
+    ensures { λ r. ⌜ Down-gives (sheet-of (now (recs .entry)) (now (line .entry)) (now (off .entry)) exprs (now (steps .entry)) «n_steps») (λ b d. run-of (now (recs .exit)) (now (line .exit)) (now (off .exit)) (r .exprs) (now (steps .exit)) «n_steps» (now (consumer .entry)) (now (slot .entry)) (now (producer .exit)) (now (unordered .exit)) edges b d (r .tally)) r (drop (r .at) (now (back .exit))) ⌝ }
+    ensures { λ r. ⌜ Run-held (now (recs .exit)) (now (line .exit)) (now (off .exit)) (r .exprs) (now (steps .exit)) «n_steps» (now (producer .exit)) (now (unordered .exit)) edges ⌝ }
+    ensures { λ r. ⌜ (length (now (back .exit)) ≡ 288) × (r .at ≤ 288) × (r .removed ≤ 288) ⌝ }
 {
-    let t = &a[..];
+    let start = Walked {
+        refused: 0,
+        at: 288,
+        removed: 0,
+        exprs: exprs,
+        tally: Tally {
+            visits: 0,
+            looks: 0,
+        },
+    };
+    size_288(list);
+    walk(
+        recs,
+        line,
+        off,
+        steps,
+        n_steps,
+        consumer,
+        slot,
+        producer,
+        unordered,
+        edges,
+        list,
+        0,
+        places,
+        back,
+        start,
+    )
 }
 
 // The upward walk: back along the places that the downward walk stored, from down.at on.
@@ -210,6 +268,22 @@ fn walk_back(
     )
 }
 
+// The answer, from the end of the upward walk.
+fn orderings_of(up: Walked) -> Orderings
+    ensures { λ r. ⌜ Answers up r ⌝ }
+{
+    if up.refused != 0 {
+        return Orderings::Refused(up.refused);
+    }
+    let tally = up.tally;
+    let fetched = Fetched {
+        exprs: up.exprs,
+        removed: up.removed,
+        tally: tally,
+    };
+    Orderings::Fetched(fetched)
+}
+
 // Along the visiting list, then back over it, but for the sorts removed on the way down.
 pub fn simplify_and_fetch_orderings(
     recs: &mut [u8; 2048],
@@ -231,21 +305,11 @@ pub fn simplify_and_fetch_orderings(
     ensures { λ r. ⌜ Orderings-held (λ m. Run-held (now (recs .exit)) (now (line .exit)) (now (off .exit)) m (now (steps .exit)) «n_steps» (now (producer .exit)) (now (unordered .exit)) edges) r ⌝ }
 {
     let mut back: [u8; 288] = [0; 288];
-    let start = Walked {
-        refused: 0,
-        at: 288,
-        removed: 0,
-        exprs: exprs,
-        tally: Tally {
-            visits: 0,
-            looks: 0,
-        },
-    };
-    size_288(list);
-    let down = walk(
+    let down = walk_down(
         recs,
         line,
         off,
+        exprs,
         steps,
         n_steps,
         consumer,
@@ -254,10 +318,8 @@ pub fn simplify_and_fetch_orderings(
         unordered,
         edges,
         list,
-        0,
         places,
         &mut back,
-        start,
     );
     if down.refused != 0 {
         return Orderings::Refused(down.refused);
@@ -276,14 +338,5 @@ pub fn simplify_and_fetch_orderings(
         &back,
         down,
     );
-    if up.refused != 0 {
-        return Orderings::Refused(up.refused);
-    }
-    let tally = up.tally;
-    let fetched = Fetched {
-        exprs: up.exprs,
-        removed: up.removed,
-        tally: tally,
-    };
-    Orderings::Fetched(fetched)
+    orderings_of(up)
 }

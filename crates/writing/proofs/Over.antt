@@ -9,10 +9,8 @@ use lib.Seq.{take-all, take-append-seam, drop-append-seam, drop-drop, drop-lengt
 use Rattle.plan.specs.Lists.{concat-map}
 use Rattle.plan.specs.Stored.{table}
 use Rattle.plan.specs.StoredLaws.{table-more}
+use Rattle.plan.specs.ListLaws.{part-from}
 use Rattle.writing.specs.Wrote.{Wrote}
-
-part-from : (s : List ℕ) (a : ℕ) → take (length s - a) (drop a s) ≡ drop a s
-part-from s a = take-all (length s - a) (drop a s) (omega (arith, length-drop a s))
 
 part-rest : (s : List ℕ) (a : ℕ) → drop (length s - a) (drop a s) ≡ []
 part-rest s a = ap (λ (n : ℕ). drop n (drop a s)) (sym (length-drop a s)) ∙ drop-length (drop a s)

@@ -21,7 +21,7 @@ graph-agrees-requires : tie.Need-graph-agrees-requires
 graph-agrees-requires c κs =
     let r = c .before .before .before .before .read-plan in
     let k = read-plan _ _ _ _ _ (c .before .before .c .given .1) (r .ensures .0) (r .ensures .1) in
-    (k .steps-held .few, (steps-plan _ _ _ _ k, λ i l. k .steps-held .each i l .formed))
+    (k .steps-held .few, (steps-plan _ _ _ _ k, k .steps-held .formed))
 
 returns : tie.Need-returns
 returns c = search needs

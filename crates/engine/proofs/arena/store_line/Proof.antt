@@ -1,6 +1,7 @@
 use native.Mathlib.Omega.{arith}
 use borrow.Author.Needs.{needs}
-use Rattle.engine.proofs.ArenaLaws.{base-below, line-below, line-on, line-off}
+use Rattle.simplify_ordering.proofs.ImplodeLaws.{base-below}
+use Rattle.engine.proofs.ArenaLaws.{line-below, line-on, line-off}
 use Rattle.engine.proofs.arena.store_line.Statement.{statement}
 use Rattle.engine.proofs.arena.store_line.Tie as tie
 

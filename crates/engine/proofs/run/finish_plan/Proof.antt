@@ -6,7 +6,7 @@ use Rattle.engine.proofs.run.finish_plan.Tie as tie
 build-ir-traversal-graph-requires : tie.Need-build-ir-traversal-graph-requires
 build-ir-traversal-graph-requires c κs =
     let k = c .before .before .before .before .before .before .before .before .pre .1 in
-    (k .steps-held .few, (steps-plan _ _ _ _ k, λ i h. k .steps-held .each i h .formed))
+    (k .steps-held .few, (steps-plan _ _ _ _ k, k .steps-held .formed))
 
 finish-graph-requires : tie.Need-finish-graph-requires
 finish-graph-requires c κs =

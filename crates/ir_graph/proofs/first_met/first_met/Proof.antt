@@ -5,8 +5,8 @@ use native.Mathlib.Omega.{arith}
 use borrow.Author.Needs.{needs}
 use lib.ListN.{length, take, length-set}
 use Rattle.plan.specs.Stored.{table, stored-steps}
+use Rattle.plan.specs.StoredLaws.{length-steps}
 use Rattle.ir_graph.specs.UpdateCaches.{first-met}
-use Rattle.ir_graph.proofs.Bounds.{length-steps}
 use Rattle.ir_graph.proofs.FirstPass.{zeros}
 use Rattle.ir_graph.proofs.FirstMet.{none-noted, one-noted, all-noted}
 use Rattle.ir_graph.proofs.first_met.first_met.Statement.{statement}

@@ -5,8 +5,8 @@ use native.Mathlib.Omega.{arith}
 use borrow.Author.Needs.{needs}
 use lib.ListN.{take}
 use Rattle.plan.specs.Stored.{stored-steps, Step-formed}
+use Rattle.plan.specs.StoredLaws.{length-steps}
 use Rattle.ir_graph.specs.UpdateCaches.{update-lines, Updatable}
-use Rattle.ir_graph.proofs.Bounds.{length-steps}
 use Rattle.ir_graph.proofs.UpdateCaches.{no-lines, next-line, all-lines}
 use Rattle.ir_graph.proofs.update_cache_nodes.update_cache_nodes.Statement.{statement}
 use Rattle.ir_graph.proofs.update_cache_nodes.update_cache_nodes.Tie as tie

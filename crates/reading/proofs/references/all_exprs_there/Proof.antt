@@ -21,7 +21,7 @@ loop-holds : tie.Need-loop-holds Inv-loop μ-loop
 loop-holds c = (omega arith, steps-first (λ (i, s). all? (λ q. ltb q (c .args .count)) (both s)) (c .args .steps .now) (c .args .n))
 
 exprs-there-requires : tie.Need-exprs-there-requires Inv-loop μ-loop
-exprs-there-requires c κs = c .before .before .pre .each _ (c .loop-test .taken)
+exprs-there-requires c κs = (let h = c .before .before .pre in record { few = omega (arith, h .few); formed = h .formed _ (c .loop-test .taken) })
 
 returns : tie.Need-returns Inv-loop μ-loop
 returns c = line-fails (λ (i, s). all? (λ q. ltb q (c .before .before .before .before .args .count)) (both s)) (stored-step (c .before .before .before .before .args .steps .now)) (c .before .before .before .before .args .n) _ (c .before .before .loop-test .taken) (sym (c .before .exprs-there .ensures) ∙ not-true _ (c .if1 .taken)) (c .before .before .before .loop .inv .1)

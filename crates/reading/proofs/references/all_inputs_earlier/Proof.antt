@@ -22,7 +22,7 @@ loop-holds : tie.Need-loop-holds Inv-loop μ-loop
 loop-holds c = (omega arith, λ es. steps-first (inputs-earlier (record { exprs = es; steps = stored-steps (c .args .steps .now) (c .args .n) })) (c .args .steps .now) (c .args .n))
 
 inputs-earlier-requires : tie.Need-inputs-earlier-requires Inv-loop μ-loop
-inputs-earlier-requires c κs = c .before .before .pre .each _ (c .loop-test .taken)
+inputs-earlier-requires c κs = (let h = c .before .before .pre in record { few = omega (arith, h .few); formed = h .formed _ (c .loop-test .taken) })
 
 returns : tie.Need-returns Inv-loop μ-loop
 returns c = λ es. line-fails (inputs-earlier (record { exprs = es; steps = stored-steps (c .before .before .before .before .args .steps .now) (c .before .before .before .before .args .n) })) (stored-step (c .before .before .before .before .args .steps .now)) (c .before .before .before .before .args .n) _ (c .before .before .loop-test .taken) (sym (c .before .inputs-earlier .ensures es _ (c .before .before .loop-test .taken)) ∙ not-true _ (c .if1 .taken)) (c .before .before .before .loop .inv .1 es)

@@ -66,7 +66,7 @@ add-count-all-3 : tie.Need-add-count-all-3 Inv-loop μ-loop
 add-count-all-3 c = omega (arith, c .before .before .before .before .before .before .before .before .before .before .pre .few)
 
 count-all-requires : tie.Need-count-all-requires Inv-loop μ-loop
-count-all-requires c κs = let h = c .before .before .before .before .before .before .before .before .before .before .pre .each _ (c .before .before .before .before .before .before .before .before .loop-test .taken) in omega (arith, c .before .before .before .before .before .before .before .before .before .before .pre .few, h .formed .n1, h .formed .n2, h .formed .n3)
+count-all-requires c κs = let h = c .before .before .before .before .before .before .before .before .before .before .pre .formed _ (c .before .before .before .before .before .before .before .before .loop-test .taken) in omega (arith, c .before .before .before .before .before .before .before .before .before .before .pre .few, h .n1, h .n2, h .n3)
 
 add-i : tie.Need-add-i Inv-loop μ-loop
 add-i c = omega (arith, c .before .before .before .before .before .before .before .before .before .before .before .pre .few)

@@ -36,7 +36,7 @@ add-count-all : tie.Need-add-count-all Inv-loop μ-loop
 add-count-all c = omega (arith, c .before .before .before .before .before .before .pre .few)
 
 count-all-requires : tie.Need-count-all-requires Inv-loop μ-loop
-count-all-requires c κs = omega (arith, c .before .before .before .before .before .before .pre .few, c .before .before .before .before .before .before .pre .each _ (c .before .before .before .before .loop-test .taken) .formed .n1)
+count-all-requires c κs = omega (arith, c .before .before .before .before .before .before .pre .few, c .before .before .before .before .before .before .pre .formed _ (c .before .before .before .before .loop-test .taken) .n1)
 
 add-i : tie.Need-add-i Inv-loop μ-loop
 add-i c = omega (arith, c .before .before .before .before .before .before .before .pre .few)

@@ -6,13 +6,13 @@ use borrow.Author.Needs.{needs}
 use mathlib.Core.List.{List}
 use lib.ListN.{length, getD}
 use Rattle.plan.specs.Sheet.{Expr, step-at}
-use Rattle.plan.specs.Stored.{arena-of, stored-steps}
+use Rattle.plan.specs.Stored.{arena-of, stored-steps, Steps-held}
 use Rattle.plan.specs.Visit.{implode}
+use Rattle.plan.specs.StoredLaws.{length-steps, length-arena}
 use Rattle.simplify_ordering.specs.Arena.{Arena-held}
-use Rattle.simplify_ordering.specs.Held.{Steps-held, with-agg}
-use Rattle.simplify_ordering.proofs.ImplodeLaws.{length-arena}
+use Rattle.node_rules.specs.Held.{with-agg}
 use Rattle.simplify_ordering.proofs.ImplodesLaws.{Imploding, imploding-none, imploding-more, all-done, same-length, entry-is, room-for-one}
-use Rattle.simplify_ordering.proofs.StepLaws.{length-steps, its-n3, list-length, list-at}
+use Rattle.node_rules.proofs.StepLaws.{its-n3, list-length, list-at}
 use Rattle.claims.proofs.Counts.{mem-at}
 use Rattle.simplify_ordering.proofs.implode.append_implodes.Statement.{statement}
 use Rattle.simplify_ordering.proofs.implode.append_implodes.Tie as tie

@@ -1,10 +1,9 @@
 use Rattle.simplify_ordering.proofs.VisitLaws.{listed-of, options-now, merges-now, settle-refused, settle-done}
-use Rattle.simplify_ordering.proofs.ImplodeLaws.{length-arena}
-use Rattle.simplify_ordering.proofs.StepLaws.{length-steps}
 use Rattle.simplify_ordering.specs.Run.{run-of, visited-of}
-use Rattle.simplify_ordering.specs.Held.{around-of, observable-of, held-edges}
+use Rattle.node_rules.specs.Held.{around-of, observable-of, held-edges}
 use Rattle.plan.specs.Stored.{arena-of, stored-steps}
 use Rattle.plan.specs.Sheet.{step-at}
+use Rattle.plan.specs.StoredLaws.{length-steps, length-arena}
 use lib.ListN.{length}
 use Prim.Native.Nat.{_<_}
 use mathlib.Core.List.{[]}

@@ -1,7 +1,7 @@
-use Rattle.simplify_ordering.proofs.RuleLaws.{ruled-is, loosened-is}
+use Rattle.node_rules.proofs.RuleLaws.{ruled-is, loosened-is}
 use Rattle.simplify_ordering.specs.Run.{refusal-number}
-use Rattle.simplify_ordering.specs.Held.{around-of, observable-of, step-of, ruled-of, held-edges}
-use Rattle.simplify_ordering.specs.declared.rules.Options.{Options}
+use Rattle.node_rules.specs.Held.{around-of, observable-of, step-of, ruled-of, held-edges}
+use Rattle.node_rules.specs.declared.rules.Options.{Options}
 use Rattle.plan.specs.Visit.{Loosened, rule, loosened}
 use Rattle.plan.specs.Stored.{stored-steps}
 use Rattle.plan.specs.Sheet.{Step, step-at}
@@ -14,10 +14,10 @@ use Rattle.simplify_ordering.proofs.visit.settle_by_rule.Statement.{sta
 use Rattle.simplify_ordering.proofs.visit.settle_by_rule.Tie as tie
 use Rattle.simplify_ordering.proofs.visit.settle_by_rule.Reads as reads
 use Rattle.simplify_ordering.proofs.visit.settle_by_rule.Lts as lts
-use Rattle.simplify_ordering.proofs.loosen.loosen_edges.Reads as loosen-edges-reads
-use Rattle.simplify_ordering.proofs.rules.refusal_of.Reads as refusal-of-reads
-use Rattle.simplify_ordering.proofs.rules.rule_of.Reads as rule-of-reads
-use Rattle.simplify_ordering.proofs.store.store_options.Reads as store-options-reads
+use Rattle.node_rules.proofs.loosen.loosen_edges.Reads as loosen-edges-reads
+use Rattle.node_rules.proofs.rules.refusal_of.Reads as refusal-of-reads
+use Rattle.node_rules.proofs.rules.rule_of.Reads as rule-of-reads
+use Rattle.node_rules.proofs.store.store_options.Reads as store-options-reads
 
 -- src/visit.rt:64:9
 refusal-of-requires : tie.Need-refusal-of-requires

@@ -1,6 +1,6 @@
 use Rattle.simplify_ordering.proofs.VisitLaws.{tests-read, goes-is, goes-on, goes-away, here-is, edges-held, unlinkable, settle-asked}
 use Rattle.simplify_ordering.specs.Run.{run-of}
-use Rattle.simplify_ordering.specs.Held.{held-edges}
+use Rattle.node_rules.specs.Held.{held-edges}
 use Rattle.plan.specs.Stored.{arena-of, stored-steps}
 use lib.Dec.{T}
 use mathlib.Core.List.{[]}

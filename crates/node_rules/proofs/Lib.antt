@@ -1,0 +1,5 @@
+pub mod EdgeLaws
+pub mod StoreLaws
+pub mod UnlinkLaws
+pub mod RuleLaws
+pub mod StepLaws

@@ -1,0 +1,52 @@
+use denote.Ref.{now}
+use native.Mathlib.Omega.{arith}
+use Rattle.plan.specs.KindNumbers.{ir-small}
+use Rattle.node_rules.proofs.StoreLaws.{options-law, options-held}
+use borrow.Author.Needs.{needs}
+use Rattle.node_rules.proofs.store.store_options.Statement.{statement}
+use Rattle.node_rules.proofs.store.store_options.Tie as tie
+
+mul-b : tie.Need-mul-b
+mul-b c = search needs
+
+number-requires : tie.Need-number-requires
+number-requires c κs = search needs
+
+element-write-steps : tie.Need-element-write-steps
+element-write-steps c = search needs
+
+add-steps : tie.Need-add-steps
+add-steps c = search needs
+
+element-write-steps-2 : tie.Need-element-write-steps-2
+element-write-steps-2 c = search needs
+
+add-steps-2 : tie.Need-add-steps-2
+add-steps-2 c = search needs
+
+element-write-steps-3 : tie.Need-element-write-steps-3
+element-write-steps-3 c = search needs
+
+add-steps-3 : tie.Need-add-steps-3
+add-steps-3 c = search needs
+
+element-write-steps-4 : tie.Need-element-write-steps-4
+element-write-steps-4 c = search needs
+
+returns : tie.Need-returns
+returns c = (options-law (now (c .before .args .steps)) (c .before .args .n) (c .before .args .i) (c .before .pre .0) (c .before .pre .1) (c .before .args .r) (c .number .result) (c .number .ensures) (rw (c .number .ensures) (ir-small (c .before .args .r .kind))), options-held (now (c .before .args .steps)) (c .before .args .n) (c .before .args .i) (c .before .pre .0) (c .before .pre .1) (c .before .args .r) (c .number .result) (c .number .ensures) (rw (c .number .ensures) (ir-small (c .before .args .r .kind))))
+
+pub store-options-spec : {M : Type 1} → statement M
+store-options-spec =
+    tie.close
+    (tie.spec
+    mul-b
+    number-requires
+    element-write-steps
+    add-steps
+    element-write-steps-2
+    add-steps-2
+    element-write-steps-3
+    add-steps-3
+    element-write-steps-4
+    returns)

@@ -1,0 +1,70 @@
+// What a visit reads of a stored step: its kind and options, and its two lists of expressions.
+ghost use mathlib.Core.Path.{_≡_};
+ghost use Prim.Native.Nat.{_+_, _≤_, _<_};
+ghost use lib.ListN.{length, take, drop};
+ghost use Rattle.plan.specs.Sheet.{step-at};
+ghost use Rattle.plan.specs.Stored.{stored-steps, Steps-held};
+ghost use Rattle.node_rules.specs.Held.{options-of, Is-list};
+use crate::rules::Options;
+use plan::ir::IR;
+
+// A list of expressions: the first `count` of the nodes.
+pub struct Entries {
+    pub nodes: [u8; 8],
+    pub count: u8,
+}
+
+// The list of at most eight that stands from byte b on.
+fn entries_from(steps: &[u8; 1024], b: usize, count: u8) -> Entries
+    requires { ⌜ (b + 8 ≤ 1024) × (count ≤ 8) × (length (now steps) ≡ 1024) ⌝ }
+    ensures { λ r. ⌜ Is-list (take count (drop b (now (steps .entry)))) r ⌝ }
+{
+    Entries {
+        nodes: [
+            steps[b],
+            steps[b + 1],
+            steps[b + 2],
+            steps[b + 3],
+            steps[b + 4],
+            steps[b + 5],
+            steps[b + 6],
+            steps[b + 7],
+        ],
+        count: count,
+    }
+}
+
+pub fn options_of(steps: &[u8; 1024], n: usize, i: usize) -> Options
+    requires { ⌜ Steps-held (now steps) n × (i < n) ⌝ }
+    ensures { λ r. ⌜ r ≡ options-of (step-at (stored-steps (now (steps .entry)) n) i) ⌝ }
+{
+    let b = i * 32;
+    Options {
+        kind: IR::of_number(steps[b]),
+        a: steps[b + 1],
+        b: steps[b + 2],
+        c: steps[b + 3],
+        n2: steps[b + 5],
+    }
+}
+
+// The n2 list.
+pub fn exprs_of(steps: &[u8; 1024], n: usize, i: usize) -> Entries
+    requires { ⌜ Steps-held (now steps) n × (i < n) ⌝ }
+    ensures { λ r. ⌜ Is-list (step-at (stored-steps (now (steps .entry)) n) i .exprs) r ⌝ }
+{
+    let b = i * 32;
+    let n1 = steps[b + 4] as usize;
+    entries_from(steps, b + (7 + n1), steps[b + 5])
+}
+
+// The n3 list.
+pub fn aggs_of(steps: &[u8; 1024], n: usize, i: usize) -> Entries
+    requires { ⌜ Steps-held (now steps) n × (i < n) ⌝ }
+    ensures { λ r. ⌜ Is-list (step-at (stored-steps (now (steps .entry)) n) i .aggs) r ⌝ }
+{
+    let b = i * 32;
+    let n1 = steps[b + 4] as usize;
+    let n2 = steps[b + 5] as usize;
+    entries_from(steps, b + (7 + (n1 + n2)), steps[b + 6])
+}
