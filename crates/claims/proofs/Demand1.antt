@@ -1,17 +1,16 @@
 -- Demand 1: a finished sheet, or one of eleven numbers under its condition, for every sequence of bytes and every output lent.
-use mathlib.Core.Path.{_≡_, refl, sym, ap, _∙_, subst}
-use mathlib.Core.Logic.{_⊎_, inl, inr}
-use Prim.Native.Nat.{ℕ, zero, suc, _+_, _*_, _≤_, _<_}
+use mathlib.Core.Path.{_≡_, refl, ap, _∙_, subst}
+use mathlib.Core.Logic.{inl, inr}
+use Prim.Native.Nat.{ℕ, _≤_, _<_}
 use native.Mathlib.Omega.{arith}
 use native.Mathlib.Nat.{not-suc-le-zero}
 use native.Mathlib.Decide.{decLt}
 use mathlib.Core.Bool.{Bool, true, false, not}
 use mathlib.Core.Option.{Option, none, some}
-use mathlib.Core.List.{List, [], _∷_, _++_, List·Memᴰ, List·Memᴰ·head}
+use mathlib.Core.List.{List, [], _∷_, List·Memᴰ, List·Memᴰ·head}
 use lib.Dec.{T, eqb, nltb→le}
-use lib.ListN.{length, drop, length-append, length-drop}
+use lib.ListN.{length, length-append, length-drop}
 use Rattle.plan.specs.declared.ir.IR.{IR}
-use Rattle.plan.specs.declared.answer.Answer.{Answer}
 use Rattle.plan.specs.Kinds.{same-ir}
 use Rattle.plan.specs.Lists.{if_then_else_, sum, times, empty?}
 use Rattle.plan.specs.Sheet.{Step, no-step, step-at, in-step-table, Sheet, Outcome, refused, done, _then_, refuse_when_else_, Line, E, P, line-of, read-line, read-lines, no-lines, too-long, no-plan, parts, read}
@@ -22,8 +21,8 @@ use Rattle.plan.specs.Walks.{walk, begin, down, up, simplify-and-fetch-ordering
 use Rattle.plan.specs.Text.{printed}
 use Rattle.plan.specs.Finished.{run, finished, Called, finish, called, too-short}
 use Rattle.claims.specs.WellFormed.{Accepted, WellFormed}
-use Rattle.claims.specs.Demand1.{Turned-back, Finished-call, Refused-call, Demand-1}
-use Rattle.claims.proofs.Outcomes.{same-value, both-done}
+use Rattle.claims.specs.Demand1.{Turned-back, Demand-1}
+use Rattle.claims.proofs.Outcomes.{both-done}
 use Rattle.claims.proofs.Booleans.{all-at}
 use Rattle.claims.proofs.Taken.{well-formed}
 use Rattle.claims.proofs.Visits.{walked, places-counted}

@@ -1,6 +1,6 @@
 -- Demand 3, of every sequence of bytes.
 use mathlib.Core.Path.{_≡_, sym}
-use mathlib.Core.List.{List, _++_}
+use mathlib.Core.List.{List}
 use Prim.Native.Nat.{ℕ}
 use Rattle.plan.specs.Sheet.{done, _then_, read}
 use Rattle.plan.specs.Faults.{checked}

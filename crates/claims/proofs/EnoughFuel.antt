@@ -1,7 +1,7 @@
 -- More fuel changes nothing: of the records reached from one, and of both passes of the graph.
 use mathlib.Core.Path.{_≡_, refl, ap, sym, _∙_}
 use mathlib.Core.Logic.{inl, inr}
-use Prim.Native.Nat.{ℕ, zero, suc, _+_, _≤_, _<_}
+use Prim.Native.Nat.{ℕ, zero, suc, _+_, _<_}
 use native.Mathlib.Omega.{arith}
 use native.Mathlib.Nat.{suc-add, not-suc-le-zero}
 use mathlib.Core.Bool.{Bool, true, false, _&&_}

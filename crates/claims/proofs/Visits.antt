@@ -6,9 +6,9 @@ use native.Mathlib.Omega.{arith}
 use mathlib.Core.List.{List, [], _∷_, _++_}
 use lib.ListN.{length, length-append, length-map, length-reverse}
 use Rattle.plan.specs.Lists.{numbered}
-use Rattle.plan.specs.Sheet.{Step, Sheet, Outcome, done, _then_}
+use Rattle.plan.specs.Sheet.{Step, Sheet, done}
 use Rattle.plan.specs.Graph.{Edge, graph, grow, popped, following, edges-into, sinks, most-places}
-use Rattle.plan.specs.Visit.{Run, simplify-ir-node-orders, goes, unlink-node, one-visit, settled}
+use Rattle.plan.specs.Visit.{Run, simplify-ir-node-orders, unlink-node, one-visit, settled}
 use Rattle.plan.specs.Walks.{walk, begin, down, up}
 use Rattle.claims.proofs.Outcomes.{both-done}
 use Rattle.claims.proofs.Walks.{two-ways}

@@ -1,14 +1,14 @@
 -- Demand 1, of the call on a sheet s and an output lent.
 use mathlib.Core.Path.{_≡_}
 use mathlib.Core.Logic.{_⊎_}
-use Prim.Native.Nat.{ℕ, _≤_, _<_}
+use Prim.Native.Nat.{ℕ, _≤_}
 use mathlib.Core.Bool.{not}
 use mathlib.Core.List.{List, _++_}
 use lib.Dec.{T}
 use lib.ListN.{length, drop}
 use Rattle.plan.specs.declared.answer.Answer.{Answer}
-use Rattle.plan.specs.Sheet.{Sheet, Outcome, refused, done, _then_, too-long, no-lines, no-plan, parts, read, read-lines}
-use Rattle.plan.specs.Faults.{checked, references-right, uses-right, fields-right}
+use Rattle.plan.specs.Sheet.{Sheet, refused, done, too-long, no-lines, no-plan, parts, read, read-lines}
+use Rattle.plan.specs.Faults.{references-right, uses-right, fields-right}
 use Rattle.plan.specs.Visit.{Run}
 use Rattle.plan.specs.Walks.{simplify-and-fetch-orderings}
 use Rattle.plan.specs.Text.{printed}

@@ -10,7 +10,7 @@ use Rattle.plan.specs.declared.ir.IR.{IR}
 use Rattle.plan.specs.Lists.{yes?, concat-map, times}
 use Rattle.plan.specs.Sheet.{Expr, Sheet, done, step-at}
 use Rattle.plan.specs.Faults.{tree}
-use Rattle.plan.specs.Look.{Eos, simplify-projected-exprs}
+use Rattle.plan.specs.Look.{Eos}
 use Rattle.plan.specs.Graph.{Edge, graph, sinks}
 use Rattle.plan.specs.Visit.{Run, simplify-ir-node-orders, looked-in, around, allow-deordering-top, is-out-of, no-edge}
 use Rattle.plan.specs.Walks.{begin, down, up, trace}

@@ -1,7 +1,7 @@
 -- What the code leans on: how large the parts of a run can get.
 use mathlib.Core.Path.{_≡_}
 use mathlib.Core.List.{List, List·Memᴰ}
-use Prim.Native.Nat.{ℕ, _+_, _≤_, _<_, _^_}
+use Prim.Native.Nat.{ℕ, _≤_, _<_, _^_}
 use lib.ListN.{length}
 use Rattle.plan.specs.Sheet.{Expr, Sheet, done, expr-at}
 use Rattle.plan.specs.Graph.{graph}

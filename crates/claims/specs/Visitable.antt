@@ -1,6 +1,6 @@
 -- What the code of a visit leans on: of the step n, in the state r in which it is visited.
 use mathlib.Core.Path.{_≡_}
-use mathlib.Core.List.{List, [], List·Memᴰ}
+use mathlib.Core.List.{[], List·Memᴰ}
 use Prim.Native.Nat.{ℕ, _+_, _≤_, _<_, _^_}
 use lib.Dec.{T}
 use lib.ListN.{length, getD}

@@ -5,7 +5,7 @@ use mathlib.Core.Bool.{not}
 use Prim.Native.Nat.{ℕ}
 use lib.Dec.{T}
 use Rattle.plan.specs.Lists.{all?}
-use Rattle.plan.specs.Sheet.{Sheet, Outcome, done, _then_, read, in-expr-table, in-step-table, over-limits, no-plan}
+use Rattle.plan.specs.Sheet.{Sheet, done, _then_, read, in-expr-table, in-step-table, over-limits, no-plan}
 use Rattle.plan.specs.Faults.{checked, references-right, uses-right, fields-right}
 
 -- the bytes s are accepted, as the sheet sh

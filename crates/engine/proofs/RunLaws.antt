@@ -11,7 +11,7 @@ use Rattle.plan.specs.declared.answer.Answer.{Answer}
 use Rattle.plan.specs.declared.answer.Finished.{Finished}
 use Rattle.plan.specs.Lists.{concat-map}
 use Rattle.plan.specs.Finished.{called, finished-answer}
-use Rattle.plan.specs.Graph.{Edge, graph}
+use Rattle.plan.specs.Graph.{Edge}
 use Rattle.plan.specs.Sheet.{Sheet, done}
 use Rattle.plan.specs.Stored.{table, arena-of, stored-exprs, stored-steps}
 use Rattle.plan.specs.StoredLaws.{same-table}

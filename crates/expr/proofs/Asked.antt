@@ -8,7 +8,7 @@ use lib.Dec.{T}
 use lib.ListN.{length, take, length-take}
 use Rattle.plan.specs.Sheet.{Sheet, no-expr, expr-at}
 use Rattle.plan.specs.Stored.{stored-expr, stored-exprs, Expr-formed}
-use Rattle.plan.specs.StoredLaws.{table-at, length-table}
+use Rattle.plan.specs.StoredLaws.{table-at, length-exprs}
 use Rattle.claims.specs.WellFormed.{WellFormed}
 use Rattle.claims.proofs.Counts.{mem-at}
 use Rattle.claims.proofs.Every.{place-of}
@@ -24,10 +24,6 @@ use Rattle.expr.proofs.Starts.{arena-at-start}
 use Rattle.expr.proofs.Starts as starts
 
 -- The stored records -------------------------------------------------------------------------------------------------------------
-
-pub length-stored : (recs : List ℕ) (n : ℕ) → length (stored-exprs recs n) ≡ n
-unfolding stored-exprs
-length-stored recs n = length-table (stored-expr recs) 0 n
 
 pub stored-at : (recs : List ℕ) (n l : ℕ) → l < n → expr-at (stored-exprs recs n) l ≡ stored-expr recs l
 unfolding stored-exprs
@@ -61,7 +57,7 @@ pub record Read-exprs (recs : List ℕ) (n : ℕ) : Type 0 where
 
 module _ (recs : List ℕ) (n : ℕ) (k : Read-exprs recs n) (room : n * 16 ≤ length recs) (line : List ℕ) (off : List Bool) (tally : Tally) (s : State) (own : Own-lines line) (on : None-off off) (started : Started line off tally s) (start : tally .looks < 2 ^ 63) where
   size : length (k .sheet .exprs) ≡ n
-  size = subst (λ es. length es ≡ n) (k .same) (length-stored recs n)
+  size = subst (λ es. length es ≡ n) (k .same) (length-exprs recs n)
 
   arena : eos-of recs n s .expr-arena ≡ k .sheet .exprs
   arena = rw (started .is recs n) (arena-at-start recs n (k .few) line off own on ∙ k .same)

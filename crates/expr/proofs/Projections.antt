@@ -24,7 +24,7 @@ use Rattle.expr.specs.State.{State, eos-of, Formed, Kept}
 use Rattle.expr.specs.Tables.{row-of, before-of}
 use Rattle.expr.specs.Contract.{Walked, looked-of, LookAsks, LookGives, Answers, along-from, AlongAsks, IsWalk, AlongGives}
 use Rattle.expr.specs.Projected.{Started, list-record, ListAsks, ListGives}
-use Rattle.expr.proofs.View.{arena-length}
+use Rattle.plan.specs.StoredLaws.{length-arena}
 use Rattle.expr.proofs.Starts.{all-same}
 use Rattle.expr.proofs.States.{kept-trans, formed-kept, answering, kept-answering, eos-answering}
 use Rattle.expr.proofs.Laws.{up-look}
@@ -109,9 +109,9 @@ same-observed : (recs : List ℕ) (n : ℕ) (s : State) → internal-observe ∅
 unfolding eos-of
 same-observed recs n s = rw (nothing-more (s .observed))
 
-length-arena : (recs : List ℕ) (n : ℕ) (s : State) → length (eos-of recs n s .expr-arena) ≡ n
+length-eos : (recs : List ℕ) (n : ℕ) (s : State) → length (eos-of recs n s .expr-arena) ≡ n
 unfolding eos-of
-length-arena recs n s = arena-length recs n (s .line) (s .off)
+length-eos recs n s = length-arena recs (s .line) (s .off) n
 
 nothing-is : (recs : List ℕ) (n : ℕ) (s : State) (allow : Bool) → simplify-projected-exprs [] allow (eos-of recs n s) ≡ (∅, eos-of recs n s)
 unfolding simplify-projected-exprs look-along look-again
@@ -126,7 +126,7 @@ module _ (recs : List ℕ) (n : ℕ) (s : State) (nodes : List ℕ) (count : ℕ
 
   list-is : simplify-projected-exprs (take count nodes) allow S ≡ ended-list (look n) allow D
   unfolding simplify-projected-exprs
-  list-is = rw (length-arena recs n s, as-children (look n) nodes count S)
+  list-is = rw (length-eos recs n s, as-children (look n) nodes count S)
 
   -- no expressions
   pub gives-none : count ≡ 0 → ListGives recs n s nodes count allow (answering ∅ s)

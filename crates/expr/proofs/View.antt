@@ -13,17 +13,13 @@ use Rattle.plan.specs.Lists.{if_then_else_}
 use Rattle.plan.specs.Sheet.{no-expr, expr-at}
 use Rattle.plan.specs.Look.{with-entry, switched-off}
 use Rattle.plan.specs.Stored.{held-expr, arena-of}
-use Rattle.plan.specs.StoredLaws.{length-table, table-at}
+use Rattle.plan.specs.StoredLaws.{length-arena, table-at}
 use Rattle.expr.specs.Cache.{packed, entry-of, cache-of}
 use Rattle.expr.specs.Record.{held}
 
 -- The arena ----------------------------------------------------------------------------------------------------------------------
 
 module _ (recs : List ℕ) (n : ℕ) where
-  pub arena-length : (line : List ℕ) (off : List Bool) → length (arena-of recs line off n) ≡ n
-  unfolding arena-of
-  arena-length line off = length-table (held-expr recs line off) 0 n
-
   pub arena-at : (line : List ℕ) (off : List Bool) (p : ℕ) → p < n → expr-at (arena-of recs line off n) p ≡ held recs (getD line p 0) (getD off p false)
   unfolding arena-of held-expr held
   arena-at line off p h = table-at (held-expr recs line off) n p no-expr h
@@ -37,7 +33,7 @@ module _ (recs : List ℕ) (n : ℕ) where
       at-each q h true i =
           rw (eqb-true q p i)
           (arena-at line′ off′ p within
-          ∙ sym (getD-set-same (arena-of recs line off n) p (held recs (getD line′ p 0) (getD off′ p false)) no-expr (rw (arena-length line off) within)))
+          ∙ sym (getD-set-same (arena-of recs line off n) p (held recs (getD line′ p 0) (getD off′ p false)) no-expr (rw (length-arena recs line off n) within)))
       at-each q h false i =
           arena-at line′ off′ q h ∙ others q (eqb-false q p i) ∙ sym (arena-at line off q h)
           ∙ sym (getD-set-other (arena-of recs line off n) p q (held recs (getD line′ p 0) (getD off′ p false)) no-expr (eqb-false q p i))
@@ -45,8 +41,8 @@ module _ (recs : List ℕ) (n : ℕ) where
       pub arena-written : arena-of recs line′ off′ n ≡ set (arena-of recs line off n) p (held recs (getD line′ p 0) (getD off′ p false))
       arena-written =
           ext-getD no-expr _ _
-          (arena-length line′ off′ ∙ sym (length-set (arena-of recs line off n) p (held recs (getD line′ p 0) (getD off′ p false)) ∙ arena-length line off))
-          (λ q h. at-each q (rw (arena-length line′ off′) at h) (eqb q p) refl)
+          (length-arena recs line′ off′ n ∙ sym (length-set (arena-of recs line off n) p (held recs (getD line′ p 0) (getD off′ p false)) ∙ length-arena recs line off n))
+          (λ q h. at-each q (rw (length-arena recs line′ off′ n) at h) (eqb q p) refl)
 
     -- line c copied over line p
     pub arena-copied : (c : ℕ) → c < n → p < length line → p < length off

@@ -6,5 +6,4 @@ pub mod order_acc; // order_acc.rt: ExprOrderAcc
 pub mod projected; // projected.rt: a list of projected expressions, and the start of a visit
 pub mod record; // record.rt: ExprRecord
 pub mod revisit_cache; // revisit_cache.rt: an entry of the revisit cache
-pub mod sizes; // sizes.rt: the length of the lent records, for proofs
 pub mod start; // start.rt: the lines before anything is changed

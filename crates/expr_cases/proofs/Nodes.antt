@@ -5,7 +5,7 @@ use native.Mathlib.Omega.{arith}
 use native.Mathlib.Decide.{ℕ-discrete}
 use mathlib.Core.Bool.{Bool, true, false, not}
 use mathlib.Core.List.{List}
-use lib.ListN.{length, getD, take, length-take}
+use lib.ListN.{getD, take, length-take}
 use lib.Seq.{getD-take}
 use Rattle.expr.specs.State.{Falls}
 

@@ -9,11 +9,11 @@ ghost use Rattle.expr.proofs.Asked.{Read-exprs};
 use expr::look::Eos;
 use expr::projected::expr_order_simplifier;
 use expr::projected::simplify_projected_exprs;
-use expr::sizes::size_2048;
 use expr::start::none_off;
 use expr::start::own_lines;
 use libc::STDOUT_FILENO;
 use plan::orders::ObservableOrders;
+use plan::sizes::size_2048;
 use reading::read_plan;
 use tally::Tally;
 

@@ -8,9 +8,9 @@ ghost use Rattle.plan.specs.Visit.{expr-order-simplifier};
 ghost use Rattle.expr.proofs.Asked.{Read-exprs};
 use expr::projected::expr_order_simplifier;
 use expr::projected::simplify_projected_exprs;
-use expr::sizes::size_2048;
 use expr::start::none_off;
 use expr::start::own_lines;
+use plan::sizes::size_2048;
 use tally::Tally;
 
 // The looks at the list of the root alone, from the state that a run starts with.

@@ -5,7 +5,7 @@ use Prim.Native.Nat.{ℕ, _-_, _≤_}
 use native.Mathlib.Omega.{arith}
 use mathlib.Core.Bool.{Bool, true, false}
 use mathlib.Core.List.{List, [], _∷_, _++_}
-use lib.Dec.{T, eqb, eqb→eq, eqb-refl}
+use lib.Dec.{T, eqb, eqb-refl}
 use lib.ListN.{length, take, drop, length-append}
 use lib.Seq.{take-append-le, drop-append-le, take-at, drop-at}
 use Rattle.plan.specs.declared.answer.Answer.{Answer}
@@ -16,24 +16,16 @@ use Rattle.plan.specs.Lists.{same, concat-map}
 use Rattle.plan.specs.Sheet.{Outcome, refused, done, refuse_when_else_}
 use Rattle.plan.specs.Text.{line, edge-line, exprs-block, steps-block, edges-block, tally-line, printed}
 use Rattle.plan.specs.Visit.{Run}
-use Rattle.plan.specs.ListLaws.{and-left, and-right}
+use Rattle.plan.specs.ListLaws.{same→eq}
 use Rattle.claims.specs.Demand1.{Finished-call, Refused-call}
 use Rattle.claims.proofs.Booleans.{and-both, T-eq}
 use Rattle.claims.proofs.Demand1.{demand-1}
 use Rattle.claims.proofs.Outcomes.{same-value}
 use Rattle.engine.specs.Call.{call}
 use Rattle.marking.specs.declared.answer.Mark.{Mark}
-use Rattle.marking.specs.Marking.{Mark-called, mark-call, verdict, mark-of, marked, marked-run, mark-answer, Tellable, Marking-kept}
+use Rattle.marking.specs.Marking.{mark-call, verdict, mark-of, marked, marked-run, mark-answer, Tellable, Marking-kept}
 
 -- The comparison -----------------------------------------------------------------------------------------------------------------
-
-same→eq : (x y : List ℕ) → T (same x y) → x ≡ y
-unfolding same
-same→eq [] [] t = refl
-same→eq [] (y ∷ ys) t = absurd t
-same→eq (x ∷ xs) [] t = absurd t
-same→eq (x ∷ xs) (y ∷ ys) t =
-    ap₂ (λ (a : ℕ) (l : List ℕ). a ∷ l) (eqb→eq x y (and-left (eqb x y) (same xs ys) t)) (same→eq xs ys (and-right (eqb x y) (same xs ys) t))
 
 same-itself : (x : List ℕ) → T (same x x)
 unfolding same

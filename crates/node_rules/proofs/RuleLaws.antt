@@ -1,9 +1,8 @@
 -- A rule reads the kind, the options and the number of expressions of its step, and leaves its lists as they are.
 use mathlib.Core.Path.{_≡_, refl, sym, ap, _∙_}
-use Prim.Native.Nat.{ℕ}
 use mathlib.Core.Bool.{Bool, true, false}
-use mathlib.Core.List.{List, []}
-use lib.ListN.{length, length-replicate}
+use mathlib.Core.List.{[]}
+use lib.ListN.{length-replicate}
 use Rattle.plan.specs.declared.ir.IR.{IR}
 use Rattle.plan.specs.declared.join.JoinType.{JoinType}
 use Rattle.plan.specs.Kinds.{join-type, same-join-type}

@@ -1,20 +1,20 @@
 -- The edge that unlink_node goes by, and the input that it hands on.
-use mathlib.Core.Path.{_≡_, sym, ap, _∙_, subst}
+use mathlib.Core.Path.{_≡_, sym, ap, _∙_}
 use Prim.Native.Nat.{ℕ, _+_, _*_, _≤_, _<_}
 use native.Mathlib.Omega.{arith}
 use native.Mathlib.Decide.{decLt}
 use mathlib.Core.Bool.{Bool, true, false}
 use mathlib.Core.List.{List}
-use lib.ListN.{length, getD, take, drop, List·getD-eq-default}
+use lib.ListN.{getD, drop, List·getD-eq-default}
 use lib.Seq.{getD-take, getD-drop}
 use Rattle.plan.specs.Sheet.{Step, no-step, step-at, step-of}
 use Rattle.plan.specs.Graph.{Edge}
-use Rattle.plan.specs.Stored.{table, stored-step, stored-steps}
+use Rattle.plan.specs.Stored.{stored-step, stored-steps}
 use Rattle.plan.specs.StoredLaws.{length-table, table-at}
-use Rattle.plan.specs.Visit.{no-edge, out-edge, with-input, relinked}
+use Rattle.plan.specs.Visit.{no-edge, out-edge}
 use Rattle.claims.specs.Demand3.{leaving-among}
 use Rattle.claims.proofs.Edges.{out-edge-at}
-use Rattle.node_rules.specs.Held.{held-edge, held-edges, Unlinkable}
+use Rattle.node_rules.specs.Held.{held-edge, held-edges}
 
 module _ (consumer slot producer : List ℕ) (unordered : List Bool) (edges n k : ℕ)
     (leaves : k ≡ leaving-among n (held-edges consumer slot producer unordered edges))

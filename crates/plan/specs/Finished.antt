@@ -1,7 +1,7 @@
 -- The finished sheet of a sheet of bytes, and the call: its answer, and every byte of the output that is lent to it.
-use Prim.Native.Nat.{ℕ, _+_}
-use mathlib.Core.Bool.{Bool, true, false}
-use mathlib.Core.List.{List, [], _∷_, _++_}
+use Prim.Native.Nat.{ℕ}
+use mathlib.Core.Bool.{Bool}
+use mathlib.Core.List.{List, _++_}
 use lib.Dec.{ltb}
 use lib.ListN.{length, drop}
 use Rattle.plan.specs.declared.answer.Answer.{Answer}

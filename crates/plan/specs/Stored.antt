@@ -1,7 +1,7 @@
 -- How the code stores a sheet: the numbers of each line as they stand on it, at a fixed stride in lent bytes.
 use Prim.Native.Nat.{ℕ, zero, suc, _+_, _*_, _≤_, _<_}
 use mathlib.Core.Path.{_≡_}
-use mathlib.Core.Bool.{Bool, true, false}
+use mathlib.Core.Bool.{Bool, false}
 use mathlib.Core.List.{List, [], _∷_}
 use lib.ListN.{length, getD, take, drop}
 use Rattle.plan.specs.Lists.{if_then_else_}

@@ -1,20 +1,16 @@
 -- Laws of the stored arena: an Implode is appended, and the records before it stay as they were.
 use mathlib.Core.Path.{_≡_, refl, sym, ap, ap₂, _∙_}
 use mathlib.Core.Logic.{_≢_}
-use mathlib.Core.Bool.{Bool, true, false}
+use mathlib.Core.Bool.{Bool, false}
 use mathlib.Core.List.{List, [], _∷_, _++_}
-use Prim.Native.Nat.{ℕ, zero, suc, _+_, _*_, _-_, _≤_, _<_}
+use Prim.Native.Nat.{ℕ, _+_, _*_, _-_, _≤_, _<_}
 use native.Mathlib.Omega.{arith}
 use native.Mathlib.Numerals.{add-one}
 use native.Mathlib.Nat.{not-suc-le-zero}
 use native.Mathlib.Decide.{decLt}
 use lib.ListN.{length, getD, take, drop, set, length-set, length-drop}
 use lib.Seq.{take-take, getD-take, getD-drop, getD-set-same, getD-set-other, drop-set-lt, drop-set-add, take-set-le}
-use Rattle.plan.specs.declared.aexpr.AExpr.{AExpr}
-use Rattle.plan.specs.Kinds.{aexpr}
-use Rattle.plan.specs.Lists.{if_then_else_}
 use Rattle.plan.specs.Sheet.{Expr, expr-of}
-use Rattle.plan.specs.Look.{switched-off}
 use Rattle.plan.specs.Visit.{implode-over}
 use Rattle.plan.specs.StoredLaws.{table-more, same-table}
 use Rattle.plan.specs.Stored.{table, stored-expr, held-expr, arena-of, Expr-formed}

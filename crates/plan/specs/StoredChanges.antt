@@ -1,5 +1,5 @@
 -- Laws of stored steps: one byte of a step is changed, and the others stay as they were.
-use mathlib.Core.Path.{_≡_, refl, sym, ap, ap₂, _∙_}
+use mathlib.Core.Path.{_≡_, refl, sym, ap, _∙_}
 use mathlib.Core.Logic.{_≢_}
 use mathlib.Core.List.{List, [], _∷_}
 use Prim.Native.Nat.{ℕ, suc, _+_, _*_, _-_, _≤_, _<_}
@@ -8,7 +8,6 @@ use native.Mathlib.Nat.{not-suc-le-zero}
 use native.Mathlib.Decide.{decLt, ℕ-discrete}
 use lib.ListN.{length, getD, take, drop, set, length-set, length-drop}
 use lib.Seq.{ext-getD, getD-set-same, getD-set-other, take-take, drop-drop, getD-take, getD-drop, drop-set-lt, drop-set-add, take-set-le, take-set-lt}
-use Rattle.plan.specs.declared.ir.IR.{IR}
 use Rattle.plan.specs.Kinds.{ir}
 use Rattle.plan.specs.Sheet.{Step, no-step, step-of, step-at}
 use Rattle.plan.specs.Visit.{with-input, with-aggs}

@@ -1,14 +1,12 @@
 -- Laws of stored lines: the entries of a table, and a stored line as it is printed.
-use mathlib.Core.Path.{_≡_, refl, sym, ap, ap₂, _∙_}
-use mathlib.Core.List.{List, [], _∷_, _++_, append-assoc}
-use Prim.Native.Nat.{ℕ, zero, suc, _+_, _*_, _-_, _≤_, _<_, min}
+use mathlib.Core.Path.{_≡_, refl, ap, ap₂, _∙_}
+use mathlib.Core.List.{List, [], _∷_, _++_}
+use Prim.Native.Nat.{ℕ, zero, suc, _+_, _*_, _≤_, _<_}
 use native.Mathlib.Omega.{arith}
 use native.Mathlib.Nat.{not-suc-le-zero}
 use mathlib.Core.Bool.{Bool}
-use lib.Dec.{eqb}
 use lib.ListN.{length, getD, take, drop, length-take, length-drop}
-use lib.Seq.{take-add, drop-drop, getD-take, getD-drop}
-use Rattle.plan.specs.Kinds.{aexpr, aexpr-number, ir, ir-number}
+use lib.Seq.{take-add, getD-take, getD-drop}
 use Rattle.plan.specs.KindNumbers.{aexpr-there, ir-there}
 use Rattle.plan.specs.Lists.{yes?, digit}
 use Rattle.plan.specs.Sheet.{expr-of, step-of}

@@ -10,7 +10,6 @@ use Rattle.plan.specs.declared.ir.IR.{IR}
 use Rattle.plan.specs.declared.distinct.UniqueKeepStrategy.{UniqueKeepStrategy}
 use Rattle.plan.specs.declared.join.JoinType.{JoinType}
 use Rattle.plan.specs.declared.join.MaintainOrderJoin.{MaintainOrderJoin}
-use Rattle.plan.specs.declared.function_ir.FunctionIR.{FunctionIR}
 use Rattle.plan.specs.declared.orders.ObservableOrders.{ObservableOrders}
 use Rattle.plan.specs.Kinds.{same-ir, keep-strategy, keep-strategy-number, join-type, same-join-type, maintain-order, maintain-order-number, same-maintain-order, function-ir}
 use Rattle.plan.specs.FunctionFlags.{contains}

@@ -4,7 +4,7 @@ use Prim.Native.Nat.{ℕ}
 use native.Mathlib.Omega.{arith}
 use mathlib.Core.List.{List}
 use lib.ListN.{length}
-use Rattle.plan.specs.Sheet.{Expr, Step, Sheet, Outcome, refused, done, _then_, read}
+use Rattle.plan.specs.Sheet.{Sheet, Outcome, refused, done, _then_, read}
 use Rattle.plan.specs.Faults.{checked}
 use Rattle.plan.specs.Stored.{stored-exprs, stored-steps, Steps-held}
 use Rattle.reading.specs.Plan.{plan-of, Plan-is, Plan-held}

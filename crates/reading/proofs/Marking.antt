@@ -1,7 +1,7 @@
 -- The marks are those of the definition.
 use mathlib.Core.Path.{_≡_, refl, sym, ap, _∙_, subst}
 use mathlib.Core.Logic.{_⊎_, inl, inr}
-use mathlib.Core.Bool.{Bool, true, false, _||_, not, _&&_}
+use mathlib.Core.Bool.{Bool, true, false, _||_, not}
 use mathlib.Core.List.{List, [], _∷_, _++_, append-nil}
 use Prim.Native.Nat.{ℕ, zero, suc, _+_, _*_, _-_, _<_, _≤_}
 use native.Mathlib.Numerals.{add-one}
@@ -13,7 +13,7 @@ use lib.Seq.{take-nil, drop-drop}
 use borrow.Author.Tests.{leb-true, le-leb, lt-leb, eq-eqb, ne-eqb}
 use Rattle.plan.specs.declared.aexpr.AExpr.{AExpr}
 use Rattle.plan.specs.Kinds.{same-aexpr}
-use Rattle.plan.specs.Lists.{all?, numbered, among, times, rest, if_then_else_}
+use Rattle.plan.specs.Lists.{all?, numbered, among, times, rest}
 use Rattle.plan.specs.Sheet.{Expr, expr-at, no-expr}
 use Rattle.plan.specs.Faults.{children-earlier, evaluated, fields-right}
 use Rattle.plan.specs.Stored.{stored-expr, stored-exprs}
@@ -23,7 +23,7 @@ use Rattle.reading.specs.Uses.{Counted}
 use Rattle.reading.specs.Marks.{marked-by, markings, field-marked}
 use Rattle.reading.proofs.Scans.{children-are, kind-of, expr-kind-is}
 use Rattle.reading.proofs.Names.{at-least}
-use Rattle.reading.proofs.Members.{In, there, not-in-none, in-left, in-right, in-either, times-in, in-times, same-tests, all-numbered-same, earlier, held, evaluation, downward, only, here}
+use Rattle.reading.proofs.Members.{In, not-in-none, in-left, in-right, in-either, times-in, in-times, same-tests, all-numbered-same, earlier, held, evaluation, downward, only}
 
 -- One line -------------------------------------------------------------------------------------------------------------------
 

@@ -1,16 +1,16 @@
 -- The lines as the code stores them.
 use mathlib.Core.Path.{_≡_}
-use Prim.Native.Nat.{ℕ, suc, _+_, _<_, _≤_, _*_}
+use Prim.Native.Nat.{ℕ, suc, _+_, _<_, _≤_}
 use mathlib.Core.Bool.{true}
-use mathlib.Core.List.{List, [], _∷_}
+use mathlib.Core.List.{List}
 use mathlib.Core.Option.{Option}
 use lib.Dec.{eqb}
-use lib.ListN.{length, getD}
+use lib.ListN.{length}
 use lib.Seq.{paste}
 use Rattle.plan.specs.declared.ir.IR.{IR}
 use Rattle.plan.specs.Kinds.{same-ir}
 use Rattle.plan.specs.Lists.{if_then_else_, sum}
-use Rattle.plan.specs.Sheet.{Sheet, Step, Line, Outcome, refused, done, read-line, parts, read-lines, no-lines}
+use Rattle.plan.specs.Sheet.{Sheet, Step, Line, refused, done, read-line, parts, read-lines, no-lines}
 use Rattle.plan.specs.Stored.{stored-exprs, stored-steps, Expr-formed, Step-formed}
 use Rattle.reading.specs.Line.{line, ended}
 use Rattle.reading.specs.declared.lines.Tally.{Tally}

@@ -1,6 +1,6 @@
 -- The two lists of a visit: what their looks ask of the arena, and that they leave it as the definition's.
 use mathlib.Core.Path.{_≡_, refl, sym, ap, _∙_, subst}
-use Prim.Native.Nat.{ℕ, _≤_, _<_, _^_}
+use Prim.Native.Nat.{ℕ, _≤_, _<_}
 use native.Mathlib.Omega.{arith}
 use mathlib.Core.Logic.{_≢_}
 use mathlib.Core.Bool.{Bool, false}
@@ -11,10 +11,9 @@ use borrow.Author.Tests.{eq-eqb, ne-eqb}
 use Rattle.plan.specs.declared.orders.ObservableOrders.{ObservableOrders}
 use Rattle.plan.specs.Kinds.{ir-number}
 use Rattle.plan.specs.Sheet.{Expr, Step, no-step, step-at}
-use Rattle.plan.specs.Look.{simplify-projected-exprs}
 use Rattle.plan.specs.Look as plan
 use Rattle.plan.specs.Stored.{arena-of, stored-steps, Steps-held}
-use Rattle.plan.specs.Visit.{expr-order-simplifier, imploded, with-implodes, with-aggs, allow-deordering-top, looks-of}
+use Rattle.plan.specs.Visit.{imploded, with-implodes, with-aggs, allow-deordering-top, looks-of}
 use Rattle.plan.specs.Visit as Visit
 use Rattle.plan.specs.StoredLaws.{length-arena}
 use Rattle.claims.proofs.Counts.{mem-at}
@@ -25,7 +24,7 @@ use Rattle.expr.specs.State.{State, eos-of, Falls, Formed}
 use Rattle.simplify_ordering.specs.declared.looks.Looked.{Looked}
 use Rattle.node_rules.specs.declared.steps.Entries.{Entries}
 use Rattle.simplify_ordering.specs.Arena.{Arena-held}
-use Rattle.node_rules.specs.Held.{step-of, options-of, observable-of, Is-list}
+use Rattle.node_rules.specs.Held.{step-of, options-of, Is-list}
 use Rattle.simplify_ordering.specs.Looks.{first, second, Lists-ask, Lists-give, Listed, Looks-give}
 
 falls-below : (n : ℕ) (xs : List ℕ) → ((q : ℕ) → List·Memᴰ q xs → q < n) → Falls n xs

@@ -1,21 +1,21 @@
 -- A visit as the definition has it, from what the code of its stages gives.
-use mathlib.Core.Path.{_≡_, refl, sym, ap, _∙_, subst}
+use mathlib.Core.Path.{_≡_, ap, _∙_}
 use mathlib.Core.Logic.{_≢_}
 use Prim.Native.Nat.{ℕ, _+_, _*_, _≤_, _<_}
 use native.Mathlib.Omega.{arith}
 use native.Mathlib.Nat.{le-trans}
 use mathlib.Core.Bool.{Bool, true, false, _&&_, not}
 use mathlib.Core.List.{List, [], _∷_, map}
-use lib.Dec.{T, eqb}
+use lib.Dec.{T}
 use lib.ListN.{length, getD, set}
 use lib.Seq.{set-set, getD-set-same}
 use borrow.Author.Tests.{eq-eqb, ne-eqb}
 use Rattle.plan.specs.declared.ir.IR.{IR}
 use Rattle.plan.specs.Kinds.{same-ir}
-use Rattle.plan.specs.Lists.{if_then_else_, yes?}
-use Rattle.plan.specs.Sheet.{Expr, Step, no-step, Outcome, refused, done, step-at}
+use Rattle.plan.specs.Lists.{yes?}
+use Rattle.plan.specs.Sheet.{Expr, Step, no-step, refused, done, step-at}
 use Rattle.plan.specs.Graph.{Edge}
-use Rattle.plan.specs.Visit.{Run, Around, Observable, Looked, around, with-aggs, looks-of, looked-in, rule, ruling, refusal-in, settled, settle, goes, unlink-node, one-visit, simplify-ir-node-orders}
+use Rattle.plan.specs.Visit.{Run, Around, Observable, Looked, around, looks-of, looked-in, rule, ruling, refusal-in, settled, settle, goes, unlink-node, one-visit, simplify-ir-node-orders}
 use Rattle.plan.specs.Visit as Visit
 use Rattle.plan.specs.Visit.{no-edge}
 use Rattle.plan.specs.StoredLaws.{length-table, table-at, length-steps}

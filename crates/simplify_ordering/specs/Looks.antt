@@ -5,7 +5,7 @@ use mathlib.Core.Bool.{Bool, false}
 use mathlib.Core.List.{List, List·Memᴰ}
 use lib.ListN.{length, set}
 use Rattle.plan.specs.declared.orders.ObservableOrders.{ObservableOrders}
-use Rattle.plan.specs.Sheet.{Expr, Step, step-at}
+use Rattle.plan.specs.Sheet.{Expr, Step}
 use Rattle.plan.specs.Look.{Eos, simplify-projected-exprs}
 use Rattle.plan.specs.Stored.{arena-of, stored-steps, Steps-held}
 use Rattle.plan.specs.Visit.{expr-order-simplifier}

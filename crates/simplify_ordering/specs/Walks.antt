@@ -1,9 +1,9 @@
 -- What the walks ask and give.
 use mathlib.Core.Path.{_≡_}
-use Prim.Native.Nat.{ℕ, _+_, _-_, _≤_, _<_}
+use Prim.Native.Nat.{ℕ, _+_, _≤_}
 use mathlib.Core.Bool.{Bool}
 use mathlib.Core.List.{List, _∷_, _++_}
-use lib.ListN.{length, set, take, drop}
+use lib.ListN.{length, set, take}
 use Rattle.plan.specs.Sheet.{Sheet, Outcome, refused, done}
 use Rattle.plan.specs.Graph.{graph}
 use Rattle.plan.specs.Stored.{arena-of, stored-steps}
@@ -16,7 +16,7 @@ use Rattle.simplify_ordering.specs.declared.walks.Fetched.{Fetched}
 use Rattle.simplify_ordering.specs.declared.walks.Orderings.{Orderings}
 use Rattle.simplify_ordering.specs.declared.walks.Walked.{Walked}
 use Rattle.node_rules.specs.Held.{held-edges}
-use Rattle.simplify_ordering.specs.Run.{run-of, Run-held}
+use Rattle.simplify_ordering.specs.Run.{Run-held}
 
 -- One place ----------------------------------------------------------------------------------------------------------------------------
 

@@ -44,32 +44,12 @@ fn look_at_lists(
     ensures { λ r. ⌜ Lists-give (now (recs .entry)) (now (line .entry)) (now (off .entry)) n tally (take (exprs .count) (exprs .nodes)) (take (aggs .count) (aggs .nodes)) allow (now (line .exit)) (now (off .exit)) r ⌝ }
 {
     let mut cache: [u8; 128] = [0; 128];
-    let start = expr_order_simplifier(&mut cache, tally);
-    let expr_nodes = exprs.nodes;
-    let between = simplify_projected_exprs(
-        recs,
-        line,
-        off,
-        &mut cache,
-        n,
-        start,
-        expr_nodes,
-        exprs.count,
-        allow,
-    );
-    let exprs_observable = between.answer;
-    let agg_nodes = aggs.nodes;
-    let end = simplify_projected_exprs(
-        recs,
-        line,
-        off,
-        &mut cache,
-        n,
-        between,
-        agg_nodes,
-        aggs.count,
-        false,
-    );
+    let new = expr_order_simplifier(&mut cache, tally);
+    let xs = exprs.nodes;
+    let mid = simplify_projected_exprs(recs, line, off, &mut cache, n, new, xs, exprs.count, allow);
+    let exprs_observable = mid.answer;
+    let ys = aggs.nodes;
+    let end = simplify_projected_exprs(recs, line, off, &mut cache, n, mid, ys, aggs.count, false);
     let aggs_observable = end.answer;
     let internal = end.observed;
     let tally_now = end.tally;

@@ -1,10 +1,10 @@
 -- A word, byte by byte over the front of a buffer.
-use mathlib.Core.Path.{_≡_, refl, sym, ap, _∙_}
+use mathlib.Core.Path.{_≡_, refl, ap, _∙_}
 use mathlib.Core.List.{List, [], _∷_, _++_}
 use Prim.Native.Nat.{ℕ, zero, suc, _+_, _<_, _≤_}
 use native.Mathlib.Omega.{arith}
 use native.Mathlib.Numerals.{add-one}
-use lib.ListN.{length, getD, take, drop, set, length-append, length-drop}
+use lib.ListN.{length, getD, take, drop, set}
 use lib.Seq.{take-all}
 use Rattle.writing.specs.Wrote.{Wrote}
 

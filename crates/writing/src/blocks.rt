@@ -1,16 +1,13 @@
 // The finished sheet block by block: E lines, P lines, G lines, T line.
-ghost use mathlib.Core.Path.{_≡_};
-ghost use mathlib.Core.List.{[], _∷_, _++_};
 ghost use Prim.Native.Nat.{ℕ, _+_, _≤_, _<_};
 ghost use lib.ListN.{length};
 ghost use Rattle.plan.specs.Lists.{concat-map};
-ghost use Rattle.plan.specs.Text.{line, expr-line, step-line, edge-line};
+ghost use Rattle.plan.specs.Text.{expr-line, step-line, edge-line};
 ghost use Rattle.plan.specs.Stored.{stored-expr, stored-step, stored-exprs, stored-steps, Expr-formed, Step-formed};
 ghost use Rattle.writing.specs.Wrote.{Wrote};
-ghost use Rattle.writing.specs.Blocks.{stored-edge, stored-edges};
+ghost use Rattle.writing.specs.Blocks.{stored-edges};
 use crate::lines::put_edge;
 use crate::lines::put_line;
-use crate::lines::put_tally;
 
 // The E line that is stored as number i.
 pub fn put_expr(out: &mut [u8], exprs: &[u8; 2048], i: usize) -> usize

@@ -1,5 +1,4 @@
 // A number behind its comma, written at the front of what is lent. The result is how much was written.
-ghost use mathlib.Core.Path.{_≡_};
 ghost use mathlib.Core.List.{[], _∷_};
 ghost use Prim.Native.Nat.{_≤_};
 ghost use lib.ListN.{length};

@@ -3,10 +3,6 @@ use Rattle.reading.proofs.Accepted.{read-plan}
 use borrow.Author.Needs.{needs}
 use Rattle.ir_graph_cases.proofs.agrees.Statement.{statement}
 use Rattle.ir_graph_cases.proofs.agrees.Tie as tie
-use Rattle.ir_graph_cases.proofs.agrees.Reads as reads
-use Rattle.ir_graph_cases.proofs.agrees.Lts as lts
-use Rattle.ir_graph_cases.proofs.graph_agrees.Reads as graph-agrees-reads
-use Rattle.reading.proofs.read_plan.Reads as read-plan-reads
 
 read-plan-requires : tie.Need-read-plan-requires
 read-plan-requires c κs = search needs

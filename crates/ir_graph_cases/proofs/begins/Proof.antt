@@ -1,11 +1,8 @@
 use native.Mathlib.Omega.{arith}
 use Prim.Native.Nat.{_-_}
 use lib.ListN.{length}
-use borrow.Author.Needs.{needs}
 use Rattle.ir_graph_cases.proofs.begins.Statement.{statement}
 use Rattle.ir_graph_cases.proofs.begins.Tie as tie
-use Rattle.ir_graph_cases.proofs.begins.Reads as reads
-use Rattle.ir_graph_cases.proofs.begins.Lts as lts
 
 abbrev Inv-loop : tie.InvT-loop
 Inv-loop a b i₀ i = Unit {0}

@@ -1,10 +1,7 @@
 use native.Mathlib.Omega.{arith}
 use Prim.Native.Nat.{_-_}
-use borrow.Author.Needs.{needs}
 use Rattle.ir_graph_cases.proofs.pairs_begin.Statement.{statement}
 use Rattle.ir_graph_cases.proofs.pairs_begin.Tie as tie
-use Rattle.ir_graph_cases.proofs.pairs_begin.Reads as reads
-use Rattle.ir_graph_cases.proofs.pairs_begin.Lts as lts
 
 abbrev Inv-loop : tie.InvT-loop
 Inv-loop consumer slot b n i₀ i = Unit {0}

@@ -5,11 +5,6 @@ use borrow.Author.Needs.{needs}
 use Rattle.reading.proofs.LineFields.{length-from}
 use Rattle.ir_graph_cases.proofs.run_all.Statement.{statement}
 use Rattle.ir_graph_cases.proofs.run_all.Tie as tie
-use Rattle.ir_graph_cases.proofs.run_all.Reads as reads
-use Rattle.ir_graph_cases.proofs.run_all.Lts as lts
-use Rattle.ir_graph_cases.proofs.case_agrees.Reads as case-agrees-reads
-use Rattle.ir_graph_cases.proofs.case_length.Reads as case-length-reads
-use Rattle.ir_graph_cases.proofs.counted.Reads as counted-reads
 
 abbrev Inv-loop : tie.InvT-loop
 Inv-loop cases s₀ rest₀ s rest = (s .all + length rest ≤ length cases) × (s .agree ≤ s .all)

@@ -1,5 +1,5 @@
 use borrow.Author.Needs.{needs}
-use Prim.Native.Nat.{_≤_, _-_}
+use Prim.Native.Nat.{_-_}
 use lib.ListN.{length}
 use Rattle.marking_cases.proofs.written.Statement.{statement}
 use Rattle.marking_cases.proofs.written.Tie as tie

@@ -3,11 +3,6 @@ use lib.Seq.{length-take-le}
 use borrow.Author.Needs.{needs}
 use Rattle.replay.proofs.case_agrees.Statement.{statement}
 use Rattle.replay.proofs.case_agrees.Tie as tie
-use Rattle.replay.proofs.case_agrees.Reads as reads
-use Rattle.replay.proofs.case_agrees.Lts as lts
-use Rattle.replay.proofs.buffer.Reads as buffer-reads
-use Rattle.replay.proofs.call_agrees.Reads as call-agrees-reads
-use Rattle.replay.proofs.read_front.Reads as read-front-reads
 
 buffer-requires : tie.Need-buffer-requires
 buffer-requires c κs = search needs

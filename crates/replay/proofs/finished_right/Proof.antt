@@ -4,10 +4,6 @@ use lib.Seq.{length-take-le}
 use borrow.Author.Needs.{needs}
 use Rattle.replay.proofs.finished_right.Statement.{statement}
 use Rattle.replay.proofs.finished_right.Tie as tie
-use Rattle.replay.proofs.finished_right.Reads as reads
-use Rattle.replay.proofs.finished_right.Lts as lts
-use Rattle.check.proofs.same.Reads as same-reads
-use Rattle.replay.proofs.untouched.Reads as untouched-reads
 
 returns : tie.Need-returns
 returns c = search needs

@@ -6,9 +6,6 @@ use Rattle.io.proofs.Counting.{counts}
 use borrow.Author.Needs.{needs}
 use Rattle.replay.proofs.read_front.Statement.{statement}
 use Rattle.replay.proofs.read_front.Tie as tie
-use Rattle.replay.proofs.read_front.Reads as reads
-use Rattle.replay.proofs.read_front.Lts as lts
-use Rattle.io.proofs.read_full.Reads as read-full-reads
 
 slice-relend-prefix-read-full : tie.Need-slice-relend-prefix-read-full
 slice-relend-prefix-read-full c = search needs

@@ -1,13 +1,7 @@
 use borrow.Author.Needs.{needs}
 use Prim.Native.Nat.{_≤_, _-_}
-use lib.ListN.{length}
 use Rattle.replay.proofs.report_answers.Statement.{statement}
 use Rattle.replay.proofs.report_answers.Tie as tie
-use Rattle.replay.proofs.report_answers.Reads as reads
-use Rattle.replay.proofs.report_answers.Lts as lts
-use Rattle.io.proofs.print_decimal.Reads as print-decimal-reads
-use Rattle.io.proofs.write_all.Reads as write-all-reads
-use Rattle.replay.proofs.report_refused.Reads as report-refused-reads
 
 abbrev Inv-loop : tie.InvT-loop
 Inv-loop answers i₀ i = i ≤ 12

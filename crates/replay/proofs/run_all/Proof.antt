@@ -2,11 +2,6 @@ use borrow.Author.Needs.{needs}
 use Prim.Native.Nat.{_≤_, _-_}
 use Rattle.replay.proofs.run_all.Statement.{statement}
 use Rattle.replay.proofs.run_all.Tie as tie
-use Rattle.replay.proofs.run_all.Reads as reads
-use Rattle.replay.proofs.run_all.Lts as lts
-use Rattle.replay.proofs.case_agrees.Reads as case-agrees-reads
-use Rattle.replay.proofs.counted.Reads as counted-reads
-use Rattle.replay.proofs.read_head.Reads as read-head-reads
 
 abbrev Inv-loop : tie.InvT-loop
 Inv-loop fd answers₀ s₀ answers s = (s .all ≤ 100000) × (s .agree ≤ s .all)

@@ -1,10 +1,8 @@
 use borrow.Author.Needs.{needs}
-use Prim.Native.Nat.{_≤_, _-_}
+use Prim.Native.Nat.{_-_}
 use lib.ListN.{length}
 use Rattle.replay.proofs.untouched.Statement.{statement}
 use Rattle.replay.proofs.untouched.Tie as tie
-use Rattle.replay.proofs.untouched.Reads as reads
-use Rattle.replay.proofs.untouched.Lts as lts
 
 abbrev Inv-loop : tie.InvT-loop
 Inv-loop out n i₀ i = Unit {0}

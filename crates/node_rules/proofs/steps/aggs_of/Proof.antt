@@ -4,9 +4,6 @@ use Rattle.node_rules.proofs.StepLaws.{its-aggs}
 use borrow.Author.Needs.{needs}
 use Rattle.node_rules.proofs.steps.aggs_of.Statement.{statement}
 use Rattle.node_rules.proofs.steps.aggs_of.Tie as tie
-use Rattle.node_rules.proofs.steps.aggs_of.Reads as reads
-use Rattle.node_rules.proofs.steps.aggs_of.Lts as lts
-use Rattle.node_rules.proofs.steps.entries_from.Reads as entries-from-reads
 
 -- src/steps.rt:66:13
 mul-b : tie.Need-mul-b

@@ -5,8 +5,6 @@ use Rattle.node_rules.proofs.StepLaws.{eight-taken}
 use borrow.Author.Needs.{needs}
 use Rattle.node_rules.proofs.steps.entries_from.Statement.{statement}
 use Rattle.node_rules.proofs.steps.entries_from.Tie as tie
-use Rattle.node_rules.proofs.steps.entries_from.Reads as reads
-use Rattle.node_rules.proofs.steps.entries_from.Lts as lts
 
 -- src/steps.rt:24:13
 element-copy-out-t6 : tie.Need-element-copy-out-t6

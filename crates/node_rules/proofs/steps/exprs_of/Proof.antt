@@ -4,9 +4,6 @@ use Rattle.node_rules.proofs.StepLaws.{its-exprs}
 use borrow.Author.Needs.{needs}
 use Rattle.node_rules.proofs.steps.exprs_of.Statement.{statement}
 use Rattle.node_rules.proofs.steps.exprs_of.Tie as tie
-use Rattle.node_rules.proofs.steps.exprs_of.Reads as reads
-use Rattle.node_rules.proofs.steps.exprs_of.Lts as lts
-use Rattle.node_rules.proofs.steps.entries_from.Reads as entries-from-reads
 
 -- src/steps.rt:56:13
 mul-b : tie.Need-mul-b

@@ -3,9 +3,6 @@ use Rattle.node_rules.proofs.StepLaws.{its-kind, its-a, its-b, its-c, i
 use borrow.Author.Needs.{needs}
 use Rattle.node_rules.proofs.steps.options_of.Statement.{statement}
 use Rattle.node_rules.proofs.steps.options_of.Tie as tie
-use Rattle.node_rules.proofs.steps.options_of.Reads as reads
-use Rattle.node_rules.proofs.steps.options_of.Lts as lts
-use Rattle.plan.proofs.ir.IR.of_number.Reads as of-number-reads
 
 -- src/steps.rt:41:13
 mul-b : tie.Need-mul-b

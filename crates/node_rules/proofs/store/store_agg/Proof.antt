@@ -5,8 +5,6 @@ use native.Mathlib.Omega.{arith}
 use borrow.Author.Needs.{needs}
 use Rattle.node_rules.proofs.store.store_agg.Statement.{statement}
 use Rattle.node_rules.proofs.store.store_agg.Tie as tie
-use Rattle.node_rules.proofs.store.store_agg.Reads as reads
-use Rattle.node_rules.proofs.store.store_agg.Lts as lts
 
 -- src/store.rt:45:13
 mul-b : tie.Need-mul-b

@@ -1,5 +1,4 @@
 use denote.Ref.{now}
-use native.Mathlib.Omega.{arith}
 use Rattle.plan.specs.KindNumbers.{ir-small}
 use Rattle.node_rules.proofs.StoreLaws.{options-law, options-held}
 use borrow.Author.Needs.{needs}

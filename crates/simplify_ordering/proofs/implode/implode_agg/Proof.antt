@@ -2,17 +2,12 @@ use Rattle.simplify_ordering.proofs.ImplodeLaws.{stays, appended, has-r
 use Rattle.node_rules.specs.Held.{with-agg}
 use Rattle.plan.specs.Stored.{arena-of, stored-steps}
 use Rattle.plan.specs.StoredLaws.{length-arena}
-use mathlib.Core.Path.{_≡_, sym, _∙_, ap}
+use mathlib.Core.Path.{sym, _∙_, ap}
 use denote.Ref.{now}
 use native.Mathlib.Omega.{arith}
 use borrow.Author.Needs.{needs}
 use Rattle.simplify_ordering.proofs.implode.implode_agg.Statement.{statement}
 use Rattle.simplify_ordering.proofs.implode.implode_agg.Tie as tie
-use Rattle.simplify_ordering.proofs.implode.implode_agg.Reads as reads
-use Rattle.simplify_ordering.proofs.implode.implode_agg.Lts as lts
-use Rattle.simplify_ordering.proofs.implode.append_implode.Reads as append-implode-reads
-use Rattle.simplify_ordering.proofs.implode.is_scalar_ae.Reads as is-scalar-ae-reads
-use Rattle.node_rules.proofs.store.store_agg.Reads as store-agg-reads
 
 -- src/implode.rt:66:8
 is-scalar-ae-requires : tie.Need-is-scalar-ae-requires

@@ -4,8 +4,6 @@ use native.Mathlib.Omega.{arith}
 use borrow.Author.Needs.{needs}
 use Rattle.simplify_ordering.proofs.implode.is_scalar_ae.Statement.{statement}
 use Rattle.simplify_ordering.proofs.implode.is_scalar_ae.Tie as tie
-use Rattle.simplify_ordering.proofs.implode.is_scalar_ae.Reads as reads
-use Rattle.simplify_ordering.proofs.implode.is_scalar_ae.Lts as lts
 
 -- src/implode.rt:18:13
 element-copy-out-l : tie.Need-element-copy-out-l

@@ -1,25 +1,18 @@
 use Rattle.simplify_ordering.proofs.LookLaws.{start-room, lists-asked, looks-given}
 use Rattle.node_rules.specs.Held.{around-of, step-of}
 use Rattle.node_rules.specs.declared.rules.Options.{Options}
-use Rattle.plan.specs.Visit.{allow-deordering-top, looks-of}
+use Rattle.plan.specs.Visit.{allow-deordering-top}
 use Rattle.plan.specs.Stored.{arena-of, stored-steps}
 use Rattle.plan.specs.Sheet.{step-at}
 use Rattle.plan.specs.StoredLaws.{length-steps}
 use lib.ListN.{length}
 use Prim.Native.Nat.{_<_}
-use mathlib.Core.Path.{_≡_, sym, _∙_, ap, refl}
+use mathlib.Core.Path.{_∙_, ap}
 use native.Mathlib.Omega.{arith}
 use denote.Ref.{now}
 use borrow.Author.Needs.{needs}
 use Rattle.simplify_ordering.proofs.looks.looks_of.Statement.{statement}
 use Rattle.simplify_ordering.proofs.looks.looks_of.Tie as tie
-use Rattle.simplify_ordering.proofs.looks.looks_of.Reads as reads
-use Rattle.simplify_ordering.proofs.looks.looks_of.Lts as lts
-use Rattle.simplify_ordering.proofs.looks.look_at_lists.Reads as look-at-lists-reads
-use Rattle.simplify_ordering.proofs.looks.with_implodes.Reads as with-implodes-reads
-use Rattle.node_rules.proofs.rules.allow_deordering_top.Reads as allow-deordering-top-reads
-use Rattle.node_rules.proofs.steps.aggs_of.Reads as aggs-of-reads
-use Rattle.node_rules.proofs.steps.exprs_of.Reads as exprs-of-reads
 
 -- src/looks.rt:116:9
 with-implodes-requires : tie.Need-with-implodes-requires

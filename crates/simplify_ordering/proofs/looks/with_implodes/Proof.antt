@@ -2,15 +2,11 @@ use Rattle.simplify_ordering.proofs.LookLaws.{grouped, ungrouped, same-
 use Rattle.plan.specs.Stored.{arena-of, stored-steps}
 use Rattle.plan.specs.Sheet.{step-at}
 use Rattle.plan.specs.Kinds.{ir-number}
-use mathlib.Core.Path.{_≡_, sym, _∙_, ap, refl}
+use mathlib.Core.Path.{_∙_, ap, refl}
 use denote.Ref.{now}
 use borrow.Author.Needs.{needs}
 use Rattle.simplify_ordering.proofs.looks.with_implodes.Statement.{statement}
 use Rattle.simplify_ordering.proofs.looks.with_implodes.Tie as tie
-use Rattle.simplify_ordering.proofs.looks.with_implodes.Reads as reads
-use Rattle.simplify_ordering.proofs.looks.with_implodes.Lts as lts
-use Rattle.plan.proofs.ir.IR.number.Reads as number-reads
-use Rattle.simplify_ordering.proofs.implode.append_implodes.Reads as append-implodes-reads
 
 -- src/looks.rt:89:8
 number-requires : tie.Need-number-requires

@@ -1,9 +1,6 @@
 use borrow.Author.Needs.{needs}
 use Rattle.simplify_ordering.proofs.visit.goes.Statement.{statement}
 use Rattle.simplify_ordering.proofs.visit.goes.Tie as tie
-use Rattle.simplify_ordering.proofs.visit.goes.Reads as reads
-use Rattle.simplify_ordering.proofs.visit.goes.Lts as lts
-use Rattle.plan.proofs.ir.IR.number.Reads as number-reads
 
 -- src/visit.rt:126:6
 number-requires : tie.Need-number-requires

@@ -1,21 +1,16 @@
 use Rattle.simplify_ordering.proofs.VisitLaws.{listed-of, options-now, merges-now, settle-refused, settle-done}
-use Rattle.simplify_ordering.specs.Run.{run-of, visited-of}
+use Rattle.simplify_ordering.specs.Run.{run-of}
 use Rattle.node_rules.specs.Held.{around-of, observable-of, held-edges}
 use Rattle.plan.specs.Stored.{arena-of, stored-steps}
-use Rattle.plan.specs.Sheet.{step-at}
 use Rattle.plan.specs.StoredLaws.{length-steps, length-arena}
 use lib.ListN.{length}
 use Prim.Native.Nat.{_<_}
 use mathlib.Core.List.{[]}
-use mathlib.Core.Path.{_≡_, sym, _∙_, ap, refl}
+use mathlib.Core.Path.{_∙_}
 use native.Mathlib.Omega.{arith}
 use denote.Ref.{now}
 use Rattle.simplify_ordering.proofs.visit.settle.Statement.{statement}
 use Rattle.simplify_ordering.proofs.visit.settle.Tie as tie
-use Rattle.simplify_ordering.proofs.visit.settle.Reads as reads
-use Rattle.simplify_ordering.proofs.visit.settle.Lts as lts
-use Rattle.simplify_ordering.proofs.looks.looks_of.Reads as looks-of-reads
-use Rattle.simplify_ordering.proofs.visit.settle_by_rule.Reads as settle-by-rule-reads
 
 -- src/visit.rt:101:9
 looks-of-requires : tie.Need-looks-of-requires

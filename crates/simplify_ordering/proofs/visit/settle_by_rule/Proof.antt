@@ -7,17 +7,11 @@ use Rattle.plan.specs.Stored.{stored-steps}
 use Rattle.plan.specs.Sheet.{Step, step-at}
 use lib.ListN.{set}
 use mathlib.Core.List.{map}
-use mathlib.Core.Path.{_≡_, sym, _∙_, ap, refl}
+use mathlib.Core.Path.{sym, _∙_, ap}
 use denote.Ref.{now}
 use borrow.Author.Needs.{needs}
 use Rattle.simplify_ordering.proofs.visit.settle_by_rule.Statement.{statement}
 use Rattle.simplify_ordering.proofs.visit.settle_by_rule.Tie as tie
-use Rattle.simplify_ordering.proofs.visit.settle_by_rule.Reads as reads
-use Rattle.simplify_ordering.proofs.visit.settle_by_rule.Lts as lts
-use Rattle.node_rules.proofs.loosen.loosen_edges.Reads as loosen-edges-reads
-use Rattle.node_rules.proofs.rules.refusal_of.Reads as refusal-of-reads
-use Rattle.node_rules.proofs.rules.rule_of.Reads as rule-of-reads
-use Rattle.node_rules.proofs.store.store_options.Reads as store-options-reads
 
 -- src/visit.rt:64:9
 refusal-of-requires : tie.Need-refusal-of-requires

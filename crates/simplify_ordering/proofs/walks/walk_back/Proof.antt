@@ -3,14 +3,11 @@ use Rattle.simplify_ordering.specs.Walks.{Walk-asks}
 use Rattle.simplify_ordering.specs.Run.{run-of}
 use Prim.Native.Nat.{ℕ}
 use mathlib.Core.List.{List}
-use mathlib.Core.Path.{_≡_, refl, sym, subst}
+use mathlib.Core.Path.{refl, sym, subst}
 use native.Mathlib.Omega.{arith}
 use denote.Ref.{now}
 use Rattle.simplify_ordering.proofs.walks.walk_back.Statement.{statement}
 use Rattle.simplify_ordering.proofs.walks.walk_back.Tie as tie
-use Rattle.simplify_ordering.proofs.walks.walk_back.Reads as reads
-use Rattle.simplify_ordering.proofs.walks.walk_back.Lts as lts
-use Rattle.simplify_ordering.proofs.walks.walk.Reads as walk-reads
 
 -- src/walks.rt:187:5
 walk-requires : tie.Need-walk-requires
