@@ -5,4 +5,6 @@ cd "$(dirname "$0")"
 (cd .. && rt staticlib simplify_ordering_lib) >&2
 touch src/bin/compare.rs # cargo does not see whether the library has changed
 RUSTFLAGS="-L native=$PWD/../target/staticlib" cargo build --release --offline --features port --bin compare --target-dir target/linked >&2
-target/linked/release/compare "$@"
+mkdir -p target/release
+cp target/linked/release/compare target/release/compare
+target/release/compare "$@"
