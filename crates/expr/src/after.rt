@@ -171,7 +171,7 @@ impl After {
         let o0 = seen.first;
         let o1 = seen.second;
         let o2 = seen.third;
-        let option = e.option == 1;
+        let set = e.option == 1;
         let mixed = pick(x.saw_mixed_inputs, acc, EMPTY);
         match kind {
             AExpr::Column => After::plain(COLUMN),
@@ -186,15 +186,15 @@ impl After {
             AExpr::Sort => After::plain(INDEPENDENT),
             AExpr::SortBy => After::once(
                 mixed,
-                pick(option, o0.union(INDEPENDENT), INDEPENDENT),
+                pick(set, o0.union(INDEPENDENT), INDEPENDENT),
                 false,
             ),
             AExpr::Filter => After::filter(x, mixed, o0, o1),
-            AExpr::Gather => After::once(o0, pick(option | o0.is_empty(), EMPTY, o1), true),
+            AExpr::Gather => After::once(o0, pick(set | o0.is_empty(), EMPTY, o1), true),
             AExpr::Slice => After::once(o2.union(mixed), o2, false),
             AExpr::Eval => After::once(
-                pick(option, o0, EMPTY),
-                pick(option, o0.union(INDEPENDENT), o0),
+                pick(set, o0, EMPTY),
+                pick(set, o0.union(INDEPENDENT), o0),
                 true,
             ),
             AExpr::StructEval => After::projected(x, allow),
@@ -205,9 +205,7 @@ impl After {
             AExpr::AnonymousAgg => After::once(acc, acc.union(INDEPENDENT), true),
             AExpr::First => After::once(o0, EMPTY, true),
             AExpr::Min => After::once(EMPTY, EMPTY, true),
-            AExpr::Implode => {
-                After::once(pick(option, o0, EMPTY), EMPTY, !option | o0.is_empty())
-            },
+            AExpr::Implode => After::once(pick(set, o0, EMPTY), EMPTY, !set | o0.is_empty()),
             AExpr::AggGroups => After::once(o0, o0.union(INDEPENDENT), true),
         }
     }

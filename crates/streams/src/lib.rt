@@ -1,4 +1,6 @@
 // What the programs read and write: a whole input, or as much of it as the buffer holds; the front of a buffer.
+ghost use mathlib.Core.Path.{_≡_};
+ghost use mathlib.Core.Bool.{true};
 ghost use Prim.Native.Nat.{_≤_};
 ghost use lib.ListN.{length};
 ghost use Rattle.io.specs.Counts.{Counts};
@@ -10,7 +12,7 @@ pub struct Input {
 }
 
 // One read; it moves nothing at the end of the input.
-pub fn read_once(fd: i32, buf: &mut [u8]) -> Input
+fn read_once(fd: i32, buf: &mut [u8]) -> Input
     ensures { λ r. ⌜ r .length ≤ length (now (buf .entry)) ⌝ }
 {
     let got = libc::read(fd, buf);
@@ -64,9 +66,13 @@ pub fn read_path(path: &[u8], buf: &mut [u8]) -> Input
     input
 }
 
-// Did the first n bytes all go out?
+// Did the first n bytes all go out? Of no bytes that holds; of others the system says it, and no contract can.
 pub fn write_front(fd: i32, buf: &[u8], n: usize) -> bool
     requires { ⌜ n ≤ length (now buf) ⌝ }
+    ensures { λ r. ⌜ (n ≡ 0 → r ≡ true) ⌝ }
 {
+    if n == 0 {
+        return true;
+    }
     io::write_all(fd, &buf[..n])
 }
