@@ -4,7 +4,7 @@
     oracle/compare_definition.py FAMILY SEED COUNT      generated sheets
     oracle/compare_definition.py hand-made              those of hand_made_sheets.py, but for the few of 16 KB and for refusal 1
 
-Copies the crate plan to a temporary folder, adds a module of specs/ with a row for each sheet (the sheet, and the oracle's
+Copies the crate plan to a temporary folder, adds a module of proofs/ with a row for each sheet (the sheet, and the oracle's
 answer), and has it proved: a row is proved by computing. Prints the count of rows, or the first that is refused.
 The oracle has to be built first (README, 'Comparing with the Rust').
 """
@@ -23,8 +23,8 @@ BIN = ROOT / "oracle" / "target" / "release"
 MARK = b"---\n"
 HEAD = """use lib.Dec.{T}
 use Rattle.plan.specs.Sheet.{refused, done}
-use Rattle.plan.specs.Cases.{bytes, right, written, agree}
-use Rattle.plan.specs.Computing.{computing}
+use Rattle.plan.proofs.Cases.{bytes, right, written, agree}
+use Rattle.plan.proofs.Computing.{computing}
 """
 
 
@@ -56,8 +56,8 @@ def main():
     with tempfile.TemporaryDirectory() as folder:
         plan = pathlib.Path(folder) / "plan"
         shutil.copytree(ROOT / "crates" / "plan", plan, ignore=shutil.ignore_patterns("must-fail"))
-        (plan / "specs" / "Rows.antt").write_text(HEAD + "".join(map(row, range(len(sheets)), sheets, answers)))
-        with open(plan / "specs" / "Lib.antt", "a") as lib:
+        (plan / "proofs" / "Rows.antt").write_text(HEAD + "".join(map(row, range(len(sheets)), sheets, answers)))
+        with open(plan / "proofs" / "Lib.antt", "a") as lib:
             lib.write("pub mod Rows\n")
         run = subprocess.run(["rt", "check", plan], stdout=subprocess.PIPE, stderr=subprocess.STDOUT, text=True)
     bad = re.search(r"`row(\d+)`", run.stdout)

@@ -12,7 +12,7 @@ use Rattle.plan.specs.Kinds.{same-ir}
 use Rattle.plan.specs.Lists.{if_then_else_, sum}
 use Rattle.plan.specs.Sheet.{Expr, Step, no-step, step-at, expr-at}
 use Rattle.plan.specs.Visit.{Run, Around, Looked, looked-in, looks-of, ruling, with-implodes}
-use Rattle.plan.specs.ListLaws.{sum-append}
+use Rattle.plan.proofs.ListLaws.{sum-append}
 use Rattle.claims.proofs.Counts.{sum-eq}
 use Rattle.claims.proofs.Sums.{sum-part, sum-set, sum-set-le, sum-beside, mark, below-one}
 use Rattle.claims.proofs.Loads.{load, load-own}

@@ -9,7 +9,7 @@ use mathlib.Core.List.{List, [], _∷_, _++_}
 use lib.Dec.{T, eqb, eqb→eq, eqb-refl}
 use lib.ListN.{length, getD}
 use Rattle.plan.specs.Lists.{all?, numbered}
-use Rattle.plan.specs.ListLaws.{and-left, and-right}
+use Rattle.plan.proofs.ListLaws.{and-left, and-right}
 
 pub and-both : (a b : Bool) → T a → T b → T (a && b)
 and-both true b t u = u

@@ -12,7 +12,7 @@ use Rattle.plan.specs.Lists.{if_then_else_, all?, select, sum, numbered, times}
 use Rattle.plan.specs.Sheet.{Step, Sheet, no-step, step-at}
 use Rattle.plan.specs.Faults.{uses-right, use-right, exprs-named, named, cache-ids}
 use Rattle.plan.specs.Graph.{is-cache}
-use Rattle.plan.specs.ListLaws.{and-right, of-all}
+use Rattle.plan.proofs.ListLaws.{and-right, of-all}
 use Rattle.claims.specs.WellFormed.{WellFormed}
 use Rattle.claims.proofs.Booleans.{and-both, equal}
 use Rattle.claims.proofs.Counts.{count, counted-twice, stands-in}

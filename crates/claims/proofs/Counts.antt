@@ -9,7 +9,7 @@ use mathlib.Core.List.{List, [], _∷_, map, reverse, reverse-cons, List·Memᴰ
 use lib.Dec.{T, eqb, eqb→eq, eqb-refl}
 use lib.ListN.{length, getD}
 use Rattle.plan.specs.Lists.{if_then_else_, select, sum, concat-map, numbered, times}
-use Rattle.plan.specs.ListLaws.{sum-append}
+use Rattle.plan.proofs.ListLaws.{sum-append}
 use Rattle.claims.proofs.Booleans.{differ}
 
 -- Tests as equations --------------------------------------------------------------------------------------------------------

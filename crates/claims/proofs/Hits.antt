@@ -14,7 +14,7 @@ use Rattle.plan.specs.Lists.{if_then_else_, any?, sum, among, times}
 use Rattle.plan.specs.Sheet.{Step, Sheet, step-at}
 use Rattle.plan.specs.Faults.{named}
 use Rattle.plan.specs.Graph.{sinks, is-cache, most-places, pushes, pop, popped, hits}
-use Rattle.plan.specs.ListLaws.{sum-append}
+use Rattle.plan.proofs.ListLaws.{sum-append}
 use Rattle.claims.specs.WellFormed.{WellFormed}
 use Rattle.claims.proofs.Booleans.{T-eq}
 use Rattle.claims.proofs.Counts.{true-of, sum-reverse, sum-ones, times-other, times-same, mem-reverse, only}

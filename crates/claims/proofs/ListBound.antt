@@ -11,7 +11,7 @@ use Rattle.plan.specs.Lists.{if_then_else_, sum}
 use Rattle.plan.specs.Sheet.{Expr, expr-at}
 use Rattle.plan.specs.Orders.{∅, no-orders, single}
 use Rattle.plan.specs.Look.{Eos, Look, look, look-along, simplify-projected-exprs, internal-observe, NO-DEORDER}
-use Rattle.plan.specs.ListLaws.{and-left}
+use Rattle.plan.proofs.ListLaws.{and-left}
 use Rattle.claims.specs.Demand3.{records}
 use Rattle.claims.specs.Limits.{Children-earlier}
 use Rattle.claims.proofs.Counts.{sum-le}

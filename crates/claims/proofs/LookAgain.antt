@@ -15,7 +15,7 @@ use Rattle.plan.specs.Lists.{if_then_else_, sum, first-last}
 use Rattle.plan.specs.Sheet.{Expr}
 use Rattle.plan.specs.Orders.{ExprOrderAcc, no-orders, add, single, is-empty}
 use Rattle.plan.specs.Look.{Eos, Look, Before, before, after, in-order, enter-struct, look-along, look-along-children}
-use Rattle.plan.specs.ListLaws.{and-left, and-right, sum-append}
+use Rattle.plan.proofs.ListLaws.{and-left, and-right, sum-append}
 
 or-right : (a b : Bool) → T b → T (a || b)
 or-right true b t = tt

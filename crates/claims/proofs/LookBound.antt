@@ -16,7 +16,7 @@ use Rattle.plan.specs.Lists.{if_then_else_, all?, sum, yes?}
 use Rattle.plan.specs.Sheet.{Expr, no-expr, expr-at}
 use Rattle.plan.specs.Orders.{∅, no-orders, is-empty}
 use Rattle.plan.specs.Look.{Eos, Look, look, look-along, look-along-children, look-again, look-at, look-whole, look-ended, one-look, with-field, with-arena, check-return-cached, is-replaced, Before, before, After, after, in-order, loses-order, switched-off, replace-implode, cache-output, internal-observe, enter-struct}
-use Rattle.plan.specs.ListLaws.{and-left}
+use Rattle.plan.proofs.ListLaws.{and-left}
 use Rattle.claims.proofs.Sums.{sum-part, sum-none, mark}
 use Rattle.claims.proofs.Loads.{kids, load, size, load-kids, later-none, outside-own}
 use Rattle.claims.proofs.RevisitCache.{seen, seen-still, seen-now, not-seen}

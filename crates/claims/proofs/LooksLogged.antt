@@ -16,7 +16,7 @@ use Rattle.plan.specs.Lists.{if_then_else_, all?, sum}
 use Rattle.plan.specs.Sheet.{expr-at}
 use Rattle.plan.specs.Orders.{∅, ExprOrderAcc, no-orders, add, single}
 use Rattle.plan.specs.Look.{Eos, Look, before, after, in-order, check-return-cached, is-replaced, replace-by-input, enter-struct, internal-observe, one-look, look, look-along, look-along-children, look-again, look-whole, look-ended, look-at, simplify-projected-exprs, ALLOW-DEORDER, NO-DEORDER}
-use Rattle.plan.specs.ListLaws.{and-left}
+use Rattle.plan.proofs.ListLaws.{and-left}
 use Rattle.claims.specs.LooksMade.{Made, made-along, made-again, made-whole, made-at, made, made-in-list}
 use Rattle.claims.proofs.Sums.{sum-part, mark}
 use Rattle.claims.proofs.Loads.{kids, load, load-kids, load-own}

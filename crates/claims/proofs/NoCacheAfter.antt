@@ -12,7 +12,7 @@ use Rattle.plan.specs.Sheet.{Step, Sheet, step-at}
 use Rattle.plan.specs.Faults.{named}
 use Rattle.plan.specs.Graph.{graph}
 use Rattle.plan.specs.Visit.{is-out-of}
-use Rattle.plan.specs.ListLaws.{sum-append}
+use Rattle.plan.proofs.ListLaws.{sum-append}
 use Rattle.claims.specs.Demand3.{Is-sort, Cache-after, No-cache-after}
 use Rattle.claims.proofs.Taken.{well-formed}
 use Rattle.claims.proofs.Counts.{mem-at, some-counted, times-of, only}

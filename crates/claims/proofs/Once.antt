@@ -12,7 +12,7 @@ use lib.ListN.{length, getD, List·getD-eq-default}
 use Rattle.plan.specs.Lists.{all?, sum, concat-map, numbered, times}
 use Rattle.plan.specs.Sheet.{Expr, Step, Sheet, no-expr, no-step, expr-at, step-at, in-expr-table}
 use Rattle.plan.specs.Faults.{references-right, children-earlier, inputs-earlier, exprs-there, exprs-named, uses-right, use-right, named, cache-ids}
-use Rattle.plan.specs.ListLaws.{and-left, and-right, of-all, sum-append}
+use Rattle.plan.proofs.ListLaws.{and-left, and-right, of-all, sum-append}
 use Rattle.claims.specs.WellFormed.{WellFormed}
 use Rattle.claims.proofs.Booleans.{entry-at, all-at}
 use Rattle.claims.proofs.Counts.{mem-concat, sum-concat}

@@ -15,7 +15,7 @@ use Rattle.plan.specs.Sheet.{Step, step-at}
 use Rattle.plan.specs.Faults.{named}
 use Rattle.plan.specs.Graph.{Edge, graph, grow, popped, hits, opens, following, edges-into, sinks, is-cache, most-places}
 use Rattle.plan.specs.Visit.{is-into, is-out-of}
-use Rattle.plan.specs.ListLaws.{sum-append}
+use Rattle.plan.proofs.ListLaws.{sum-append}
 use Rattle.claims.proofs.Booleans.{T-eq, differ, equal}
 use Rattle.claims.proofs.Counts.{false-of, mem-at, sum-reverse, sum-ones, times-same, times-other, same-number, only}
 use Rattle.claims.proofs.Plans.{Plan, root-there, input-there, cache-named, cache-used}

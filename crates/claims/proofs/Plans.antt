@@ -14,7 +14,7 @@ use Rattle.plan.specs.Lists.{if_then_else_, all?, select, sum, numbered, times}
 use Rattle.plan.specs.Sheet.{Step, Sheet, no-step, step-at, in-step-table}
 use Rattle.plan.specs.Faults.{references-right, children-earlier, inputs-earlier, exprs-there, uses-right, use-right, exprs-named, named, cache-ids}
 use Rattle.plan.specs.Graph.{sinks, is-cache}
-use Rattle.plan.specs.ListLaws.{and-left, and-right, of-all}
+use Rattle.plan.proofs.ListLaws.{and-left, and-right, of-all}
 use Rattle.claims.specs.WellFormed.{WellFormed}
 use Rattle.claims.proofs.Booleans.{differ, equal, all-at, entry-at}
 use Rattle.claims.proofs.Counts.{true-of, false-of, T-of, not-both, mem-concat, count-none, times-of, only}

@@ -15,7 +15,7 @@ use Rattle.plan.specs.Sheet.{Sheet, Outcome, done, step-at}
 use Rattle.plan.specs.Graph.{Edge, graph}
 use Rattle.plan.specs.Visit.{Run, simplify-ir-node-orders, goes, unlink-node, settled, is-out-of, no-edge, out-edge}
 use Rattle.plan.specs.Walks.{walk, trace, then-all, begin, down, up}
-use Rattle.plan.specs.ListLaws.{and-right}
+use Rattle.plan.proofs.ListLaws.{and-right}
 use Rattle.claims.specs.WellFormed.{Accepted}
 use Rattle.claims.specs.Demand3.{leaving, Unordered-at, Removed-at, Is-sort, No-slice, Down, Up, Removed, Edge-of, Sorts-removed}
 use Rattle.claims.proofs.Outcomes.{same-value, both-done}

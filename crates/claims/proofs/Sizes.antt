@@ -15,7 +15,7 @@ use Rattle.plan.specs.Faults.{named}
 use Rattle.plan.specs.Graph.{graph, sinks}
 use Rattle.plan.specs.Visit.{Run, simplify-ir-node-orders, unlink-node, settled}
 use Rattle.plan.specs.Walks.{begin, down}
-use Rattle.plan.specs.ListLaws.{and-left, and-right}
+use Rattle.plan.proofs.ListLaws.{and-left, and-right}
 use Rattle.claims.specs.WellFormed.{WellFormed}
 use Rattle.claims.specs.Demand3.{Down, Up}
 use Rattle.claims.proofs.Walks.{two-ways, walk-keeps, trace-keeps}

@@ -16,7 +16,7 @@ use Rattle.plan.specs.Lists.{if_then_else_, yes?}
 use Rattle.plan.specs.Sheet.{Step, done, no-step, step-at}
 use Rattle.plan.specs.Graph.{Edge}
 use Rattle.plan.specs.Visit.{Run, Around, Observable, Loosened, rule, unordered-union, merge-sorted-all, simplify-ir-node-orders, goes, ruling, looked-in, looks-of, is-out-of, no-edge, out-edge}
-use Rattle.plan.specs.ListLaws.{and-left}
+use Rattle.plan.proofs.ListLaws.{and-left}
 use Rattle.claims.proofs.StepTable.{same-kind}
 use Rattle.claims.proofs.Visits.{visited}
 use Rattle.claims.proofs.Edges.{Apart, edge-at, visit-apart}

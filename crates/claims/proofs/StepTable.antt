@@ -10,10 +10,10 @@ use lib.Dec.{T, leb, eqb→eq, leb→le}
 use lib.ListN.{length, getD, List·getD-eq-default}
 use Rattle.plan.specs.declared.ir.IR.{IR}
 use Rattle.plan.specs.Kinds.{ir, ir-number, same-ir}
-use Rattle.plan.specs.KindNumbers.{ir-back}
+use Rattle.plan.proofs.KindNumbers.{ir-back}
 use Rattle.plan.specs.Lists.{all?}
 use Rattle.plan.specs.Sheet.{Step, no-step, step-at, step-table, in-step-table}
-use Rattle.plan.specs.ListLaws.{and-left, and-right}
+use Rattle.plan.proofs.ListLaws.{and-left, and-right}
 use Rattle.claims.proofs.Booleans.{all-at}
 
 -- Kinds and their numbers -----------------------------------------------------------------------------------------------------

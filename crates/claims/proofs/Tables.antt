@@ -12,7 +12,7 @@ use Rattle.plan.specs.declared.ir.IR.{IR}
 use Rattle.plan.specs.Kinds.{aexpr-number, same-aexpr, ir-number, same-ir}
 use Rattle.plan.specs.Lists.{all?, yes?}
 use Rattle.plan.specs.Sheet.{Expr, Step, expr-table, step-table, in-expr-table, in-step-table}
-use Rattle.plan.specs.ListLaws.{and-left, and-right}
+use Rattle.plan.proofs.ListLaws.{and-left, and-right}
 use Rattle.claims.proofs.Changes.{sort?}
 
 -- a test of every row, and of what stands past the last

@@ -10,7 +10,7 @@ use lib.ListN.{length, getD}
 use Rattle.plan.specs.Lists.{all?, sum, empty?}
 use Rattle.plan.specs.Sheet.{Sheet, done, Line, E, P, expr-of, step-of, expr-fits, step-fits, in-expr-table, in-step-table, over-limits, with-expr, with-step, within-limits, line-of, read-line, read-lines, no-lines, read, parts, too-long, no-plan, expr-count}
 use Rattle.plan.specs.Faults.{checked, references-right, uses-right, fields-right}
-use Rattle.plan.specs.ListLaws.{and-right}
+use Rattle.plan.proofs.ListLaws.{and-right}
 use Rattle.claims.specs.WellFormed.{Accepted, WellFormed}
 use Rattle.claims.proofs.Outcomes.{same-value, came, both-done, passed, passed-not}
 use Rattle.claims.proofs.Booleans.{all-append}

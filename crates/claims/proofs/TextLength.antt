@@ -11,10 +11,10 @@ use Rattle.plan.specs.Lists.{sum, concat-map, digit}
 use Rattle.plan.specs.Sheet.{Expr, Step}
 use Rattle.plan.specs.Graph.{Edge}
 use Rattle.plan.specs.Visit.{Run}
-use Rattle.plan.specs.Decimals.{decimal-short}
+use Rattle.plan.proofs.Decimals.{decimal-short}
 use Rattle.plan.specs.Text.{decimal, line, expr-line, step-line, edge-line, tally-line}
-use Rattle.plan.specs.ListLaws.{sum-append}
-use Rattle.plan.specs.KindNumbers.{ir-small}
+use Rattle.plan.proofs.ListLaws.{sum-append}
+use Rattle.plan.proofs.KindNumbers.{ir-small}
 
 -- a number behind its comma
 abbrev width : ℕ → ℕ

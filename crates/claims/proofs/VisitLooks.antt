@@ -10,7 +10,7 @@ use Rattle.plan.specs.Lists.{sum}
 use Rattle.plan.specs.Sheet.{Expr, Step, no-step, step-at}
 use Rattle.plan.specs.Look.{Eos, simplify-projected-exprs}
 use Rattle.plan.specs.Visit.{Run, Looked, looked-in, looks-of, around, allow-deordering-top}
-use Rattle.plan.specs.ListLaws.{sum-append}
+use Rattle.plan.proofs.ListLaws.{sum-append}
 use Rattle.claims.specs.Demand3.{List-bounded, Looks-bounded}
 use Rattle.claims.proofs.Sums.{sum-part, sum-at, sum-below, below-one, below-if-counted, mark}
 use Rattle.claims.proofs.Loads.{load, load-own, load-records, among-records}

@@ -9,8 +9,8 @@ use lib.ListN.{length, getD, set, take, drop, length-set, length-take, length-dr
 use lib.Seq.{ext-getD, getD-take, getD-drop, getD-set-same, getD-set-other, take-take, drop-set-add}
 use Rattle.plan.specs.Sheet.{expr-of}
 use Rattle.plan.specs.Look.{switched-off}
-use Rattle.plan.specs.Stored.{stored-expr, stored-exprs, held-expr, arena-of, Expr-formed}
-use Rattle.plan.specs.StoredLaws.{same-table}
+use Rattle.storage.specs.Stored.{stored-expr, stored-exprs, held-expr, arena-of, Expr-formed}
+use Rattle.storage.proofs.Laws.{same-table}
 use Rattle.simplify_ordering.specs.Arena.{Arena-held}
 use Rattle.simplify_ordering.proofs.ImplodeLaws.{base-below}
 use Rattle.engine.specs.Lines.{Copied, Line-stored, Lines-stored}

@@ -11,11 +11,11 @@ use Rattle.plan.specs.declared.answer.Answer.{Answer}
 use Rattle.plan.specs.Finished.{Called, called, run, finish, finished-answer, answer-length}
 use Rattle.plan.specs.Lists.{concat-map}
 use Rattle.plan.specs.Sheet.{Sheet, Outcome, refused, done, _then_, refuse_when_else_}
-use Rattle.plan.specs.Stored.{stored-steps}
+use Rattle.storage.specs.Stored.{stored-steps}
 use Rattle.plan.specs.Text.{line, edge-line, exprs-block, steps-block, edges-block, tally-line, printed}
 use Rattle.plan.specs.Visit.{Run}
 use Rattle.plan.specs.Walks.{down, up, simplify-and-fetch-orderings}
-use Rattle.plan.specs.StoredLaws.{length-steps}
+use Rattle.storage.proofs.Laws.{length-steps}
 use Rattle.claims.specs.WellFormed.{Accepted, WellFormed}
 use Rattle.claims.specs.Demand1.{Demand-1, Finished-call, Refused-call}
 use Rattle.claims.specs.Demand3.{Finished-run}

@@ -13,8 +13,8 @@ use Rattle.plan.specs.Lists.{concat-map}
 use Rattle.plan.specs.Finished.{called, finished-answer}
 use Rattle.plan.specs.Graph.{Edge}
 use Rattle.plan.specs.Sheet.{Sheet, done}
-use Rattle.plan.specs.Stored.{table, arena-of, stored-exprs, stored-steps}
-use Rattle.plan.specs.StoredLaws.{same-table}
+use Rattle.storage.specs.Stored.{table, arena-of, stored-exprs, stored-steps}
+use Rattle.storage.proofs.Laws.{same-table}
 use Rattle.plan.specs.Text.{expr-line, step-line, edge-line, tally-line, exprs-block, steps-block, edges-block, printed}
 use Rattle.plan.specs.Text as text
 use Rattle.plan.specs.Visit.{Run}

@@ -7,7 +7,7 @@ use Rattle.plan.specs.declared.answer.Answer.{Answer}
 use Rattle.plan.specs.Finished.{Called}
 use Rattle.plan.specs.Graph.{graph}
 use Rattle.plan.specs.Sheet.{Step}
-use Rattle.plan.specs.Stored.{Steps-held}
+use Rattle.storage.specs.Stored.{Steps-held}
 use Rattle.claims.specs.WellFormed.{WellFormed}
 use Rattle.reading.specs.Held.{sheet, Exprs-held}
 use Rattle.ir_graph.specs.Edges.{edges-of}

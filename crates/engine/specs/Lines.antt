@@ -6,7 +6,7 @@ use mathlib.Core.List.{List, _++_}
 use lib.ListN.{length, getD, drop}
 use Rattle.plan.specs.declared.answer.Finished.{Finished}
 use Rattle.plan.specs.Finished.{finished-answer}
-use Rattle.plan.specs.Stored.{stored-expr, held-expr, Expr-formed}
+use Rattle.storage.specs.Stored.{stored-expr, held-expr, Expr-formed}
 use Rattle.plan.specs.Text.{printed}
 use Rattle.plan.specs.Visit.{Run}
 

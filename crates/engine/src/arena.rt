@@ -2,7 +2,7 @@
 ghost use mathlib.Core.Path.{_≡_};
 ghost use Prim.Native.Nat.{ℕ, _+_, _*_, _≤_, _<_};
 ghost use lib.ListN.{length, getD};
-ghost use Rattle.plan.specs.Stored.{arena-of, stored-exprs, Expr-formed};
+ghost use Rattle.storage.specs.Stored.{arena-of, stored-exprs, Expr-formed};
 ghost use Rattle.simplify_ordering.specs.Arena.{Arena-held};
 ghost use Rattle.engine.specs.Lines.{Copied, Line-stored};
 

@@ -7,8 +7,8 @@ use mathlib.Core.List.{List, List·Memᴰ}
 use lib.Dec.{T}
 use lib.ListN.{length, take, length-take}
 use Rattle.plan.specs.Sheet.{Sheet, no-expr, expr-at}
-use Rattle.plan.specs.Stored.{stored-expr, stored-exprs, Expr-formed}
-use Rattle.plan.specs.StoredLaws.{table-at, length-exprs}
+use Rattle.storage.specs.Stored.{stored-expr, stored-exprs, Expr-formed}
+use Rattle.storage.proofs.Laws.{table-at, length-exprs}
 use Rattle.claims.specs.WellFormed.{WellFormed}
 use Rattle.claims.proofs.Counts.{mem-at}
 use Rattle.claims.proofs.Every.{place-of}

@@ -13,7 +13,7 @@ use Rattle.plan.specs.Lists.{if_then_else_}
 use Rattle.plan.specs.Orders.{∅, _∪_, no-orders, ExprOrderAcc, single}
 use Rattle.plan.specs.Look.{internal-observe, Look, look-along, look-again, look-along-children, look, simplify-projected-exprs}
 use Rattle.plan.specs.Look as plan
-use Rattle.plan.specs.Stored.{arena-of}
+use Rattle.storage.specs.Stored.{arena-of}
 use Rattle.plan.specs.Visit.{expr-order-simplifier}
 use Rattle.expr.specs.declared.before.Before.{Before}
 use Rattle.tally.specs.declared.Tally.{Tally}
@@ -24,7 +24,7 @@ use Rattle.expr.specs.State.{State, eos-of, Formed, Kept}
 use Rattle.expr.specs.Tables.{row-of, before-of}
 use Rattle.expr.specs.Contract.{Walked, looked-of, LookAsks, LookGives, Answers, along-from, AlongAsks, IsWalk, AlongGives}
 use Rattle.expr.specs.Projected.{Started, list-record, ListAsks, ListGives}
-use Rattle.plan.specs.StoredLaws.{length-arena}
+use Rattle.storage.proofs.Laws.{length-arena}
 use Rattle.expr.proofs.Starts.{all-same}
 use Rattle.expr.proofs.States.{kept-trans, formed-kept, answering, kept-answering, eos-answering}
 use Rattle.expr.proofs.Laws.{up-look}

@@ -11,7 +11,7 @@ use Rattle.plan.specs.declared.aexpr.AExpr.{AExpr}
 use Rattle.plan.specs.Kinds.{aexpr, same-aexpr}
 use Rattle.plan.specs.Lists.{if_then_else_, all?}
 use Rattle.plan.specs.Sheet.{Expr, expr-of}
-use Rattle.plan.specs.Stored.{stored-expr, Expr-formed}
+use Rattle.storage.specs.Stored.{stored-expr, Expr-formed}
 use Rattle.expr.specs.declared.record.ExprRecord.{ExprRecord}
 use Rattle.expr.specs.Record.{record-of, Shaped, held, IsHeld}
 use Rattle.expr.specs.State.{Readable, preserves, is-replaced-line}

@@ -7,8 +7,8 @@ use mathlib.Core.Bool.{Bool, false}
 use mathlib.Core.List.{List}
 use lib.ListN.{length, getD, set, replicate, length-replicate, length-set}
 use lib.Seq.{getD-set-same, getD-set-other}
-use Rattle.plan.specs.Stored.{stored-exprs, stored-expr, held-expr, arena-of}
-use Rattle.plan.specs.StoredLaws.{same-table}
+use Rattle.storage.specs.Stored.{stored-exprs, stored-expr, held-expr, arena-of}
+use Rattle.storage.proofs.Laws.{same-table}
 use Rattle.tally.specs.declared.Tally.{Tally}
 use Rattle.expr.specs.State.{State, Formed}
 use Rattle.expr.specs.Projected.{Started}

@@ -93,7 +93,7 @@ kept-copied p c s h k =
     }
 
 module _ (recs : List ℕ) (n : ℕ) (s : State) where
-  pub eos-arena : eos-of recs n s .expr-arena ≡ Rattle.plan.specs.Stored.arena-of recs (s .line) (s .off) n
+  pub eos-arena : eos-of recs n s .expr-arena ≡ Rattle.storage.specs.Stored.arena-of recs (s .line) (s .off) n
   unfolding eos-of
   eos-arena = refl
 

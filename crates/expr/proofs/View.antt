@@ -12,8 +12,8 @@ use Rattle.plan.specs.declared.orders.ObservableOrders.{ObservableOrders}
 use Rattle.plan.specs.Lists.{if_then_else_}
 use Rattle.plan.specs.Sheet.{no-expr, expr-at}
 use Rattle.plan.specs.Look.{with-entry, switched-off}
-use Rattle.plan.specs.Stored.{held-expr, arena-of}
-use Rattle.plan.specs.StoredLaws.{length-arena, table-at}
+use Rattle.storage.specs.Stored.{held-expr, arena-of}
+use Rattle.storage.proofs.Laws.{length-arena, table-at}
 use Rattle.expr.specs.Cache.{packed, entry-of, cache-of}
 use Rattle.expr.specs.Record.{held}
 

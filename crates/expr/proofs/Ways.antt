@@ -18,7 +18,7 @@ use Rattle.plan.specs.Sheet.{Expr, expr-at}
 use Rattle.plan.specs.Orders.{∅, no-orders, ExprOrderAcc, single}
 use Rattle.plan.specs.Look.{one-look, before, check-return-cached, is-replaced, replace-by-input, after, enter-struct, look-ended, look}
 use Rattle.plan.specs.Look as plan
-use Rattle.plan.specs.Stored.{stored-expr, Expr-formed}
+use Rattle.storage.specs.Stored.{stored-expr, Expr-formed}
 use Rattle.expr.specs.declared.after.After.{After}
 use Rattle.expr.specs.declared.before.Before.{Before}
 use Rattle.expr.specs.declared.record.ExprRecord.{ExprRecord}

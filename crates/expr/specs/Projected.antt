@@ -6,7 +6,7 @@ use mathlib.Core.List.{List}
 use lib.ListN.{length, take}
 use Rattle.plan.specs.declared.aexpr.AExpr.{AExpr}
 use Rattle.plan.specs.Look.{simplify-projected-exprs}
-use Rattle.plan.specs.Stored.{arena-of}
+use Rattle.storage.specs.Stored.{arena-of}
 use Rattle.plan.specs.Visit.{expr-order-simplifier}
 use Rattle.tally.specs.declared.Tally.{Tally}
 use Rattle.expr.specs.declared.record.ExprRecord.{ExprRecord}

@@ -8,7 +8,7 @@ use lib.ListN.{length, getD, take}
 use Rattle.plan.specs.Lists.{if_then_else_}
 use Rattle.plan.specs.Sheet.{Expr}
 use Rattle.plan.specs.Look.{switched-off}
-use Rattle.plan.specs.Stored.{stored-expr}
+use Rattle.storage.specs.Stored.{stored-expr}
 use Rattle.expr.specs.declared.record.ExprRecord.{ExprRecord}
 
 abbrev pub record-of : ExprRecord → Expr

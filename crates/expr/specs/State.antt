@@ -10,7 +10,7 @@ use Rattle.plan.specs.Kinds.{same-aexpr}
 use Rattle.plan.specs.Lists.{all?}
 use Rattle.plan.specs.Sheet.{Expr}
 use Rattle.plan.specs.Look as look
-use Rattle.plan.specs.Stored.{stored-expr, arena-of, Expr-formed}
+use Rattle.storage.specs.Stored.{stored-expr, arena-of, Expr-formed}
 use Rattle.tally.specs.declared.Tally.{Tally}
 use Rattle.plan.specs.declared.orders.ObservableOrders.{ObservableOrders}
 use Rattle.expr.specs.declared.look.Eos.{Eos}

@@ -3,7 +3,7 @@ ghost use mathlib.Core.Path.{_≡_};
 ghost use Prim.Native.Nat.{_+_, _*_, _<_, _≤_};
 ghost use lib.ListN.{length, getD};
 ghost use Rattle.plan.specs.Lists.{if_then_else_};
-ghost use Rattle.plan.specs.Stored.{Expr-formed};
+ghost use Rattle.storage.specs.Stored.{Expr-formed};
 ghost use Rattle.expr.specs.Record.{record-of, IsHeld, slot, child-at};
 use plan::aexpr::AExpr;
 

@@ -3,7 +3,7 @@ ghost use mathlib.Core.Path.{_≡_};
 ghost use mathlib.Core.List.{[], _∷_};
 ghost use Prim.Native.Nat.{_<_};
 ghost use Rattle.plan.specs.Look.{simplify-projected-exprs};
-ghost use Rattle.plan.specs.Stored.{stored-exprs};
+ghost use Rattle.storage.specs.Stored.{stored-exprs};
 ghost use Rattle.plan.specs.Visit.{expr-order-simplifier};
 ghost use Rattle.expr.proofs.Asked.{Read-exprs};
 use expr::projected::expr_order_simplifier;

@@ -11,8 +11,8 @@ use Rattle.plan.specs.Faults.{named}
 use Rattle.plan.specs.declared.ir.IR.{IR}
 use Rattle.plan.specs.Kinds.{same-ir}
 use Rattle.plan.specs.Graph.{sinks, is-cache}
-use Rattle.plan.specs.Stored.{stored-step, stored-steps, Step-formed}
-use Rattle.plan.specs.StoredLaws.{table-at, length-steps}
+use Rattle.storage.specs.Stored.{stored-step, stored-steps, Step-formed}
+use Rattle.storage.proofs.Laws.{table-at, length-steps}
 use Rattle.claims.proofs.Plans.{Plan}
 use Rattle.claims.proofs.Sizes.{few-sinks}
 use Rattle.ir_graph.specs.Turns.{cached}

@@ -10,8 +10,8 @@ use lib.ListN.{length, getD, take, drop, set, length-take, drop-of-length-le}
 use lib.Seq.{drop-cons, getD-take, getD-drop}
 use Rattle.plan.specs.Sheet.{Step, step-at, step-of}
 use Rattle.plan.specs.Graph.{popped}
-use Rattle.plan.specs.Stored.{table, stored-step, stored-steps}
-use Rattle.plan.specs.StoredLaws.{length-steps}
+use Rattle.storage.specs.Stored.{table, stored-step, stored-steps}
+use Rattle.storage.proofs.Laws.{length-steps}
 use Rattle.ir_graph.specs.Turns.{cached}
 use Rattle.ir_graph.specs.UpdateCaches.{one-id, first-met, first-lines}
 use Rattle.ir_graph.proofs.Bounds.{step-there, cache-there}

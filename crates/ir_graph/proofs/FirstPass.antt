@@ -15,9 +15,9 @@ use Rattle.plan.specs.Lists.{if_then_else_, any?, sum, among, times}
 use Rattle.plan.specs.Sheet.{Step, step-at}
 use Rattle.plan.specs.Faults.{named}
 use Rattle.plan.specs.Graph.{sinks, is-cache, most-places, pushes, pop, popped}
-use Rattle.plan.specs.Stored.{stored-step, stored-steps, Step-formed}
-use Rattle.plan.specs.ListLaws.{sum-append}
-use Rattle.plan.specs.StoredLaws.{length-steps}
+use Rattle.storage.specs.Stored.{stored-step, stored-steps, Step-formed}
+use Rattle.plan.proofs.ListLaws.{sum-append}
+use Rattle.storage.proofs.Laws.{length-steps}
 use Rattle.claims.proofs.Booleans.{T-eq}
 use Rattle.claims.proofs.Counts.{sum-reverse, sum-le, sum-ones, times-same, times-other, mem-reverse, mem-at, only}
 use Rattle.claims.proofs.Plans.{Plan, root-there, input-there, cache-named}

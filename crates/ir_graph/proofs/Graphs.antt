@@ -7,7 +7,7 @@ use lib.ListN.{length, getD, set}
 use Rattle.plan.specs.Sheet.{Step}
 use Rattle.plan.specs.Faults.{named}
 use Rattle.plan.specs.Graph.{edges-into, sinks}
-use Rattle.plan.specs.Stored.{table, stored-steps, Step-formed}
+use Rattle.storage.specs.Stored.{table, stored-steps, Step-formed}
 use Rattle.claims.proofs.Plans.{Plan}
 use Rattle.ir_graph.specs.Pushed.{Pushed}
 use Rattle.ir_graph.specs.Turns.{followed-by, used}

@@ -8,7 +8,7 @@ use lib.ListN.{length, getD, take, drop, set, length-take, length-drop}
 use lib.Seq.{take-suc, take-suc-set, take-all, getD-take, getD-drop, drop-drop}
 use Rattle.plan.specs.Kinds.{ir}
 use Rattle.plan.specs.Sheet.{step-of}
-use Rattle.plan.specs.Stored.{stored-step, Step-formed}
+use Rattle.storage.specs.Stored.{stored-step, Step-formed}
 use Rattle.ir_graph.specs.Pushed.{Pushed}
 
 abbrev pub inputs-of : List ℕ → ℕ → List ℕ

@@ -8,7 +8,7 @@ use lib.ListN.{length, getD, take, drop, set, length-take, length-drop}
 use lib.Seq.{take-suc, take-all, getD-take, getD-drop, getD-set-same, getD-set-other}
 use Rattle.plan.specs.Lists.{numbered}
 use Rattle.plan.specs.Graph.{Edge, edges-into}
-use Rattle.plan.specs.StoredLaws.{length-table, same-table}
+use Rattle.storage.proofs.Laws.{length-table, same-table}
 use Rattle.ir_graph.specs.Edges.{made, edges-of, Linked}
 use Rattle.ir_graph.proofs.Pushing.{one-entry-more}
 

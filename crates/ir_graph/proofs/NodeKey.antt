@@ -10,7 +10,7 @@ use Rattle.plan.specs.declared.ir.IR.{IR}
 use Rattle.plan.specs.Kinds.{same-ir}
 use Rattle.plan.specs.Lists.{if_then_else_}
 use Rattle.plan.specs.Sheet.{Step, Sheet, step-at, step-of}
-use Rattle.plan.specs.Stored.{stored-step}
+use Rattle.storage.specs.Stored.{stored-step}
 use Rattle.claims.specs.WellFormed.{WellFormed}
 use Rattle.claims.proofs.StepTable.{same-kind}
 use Rattle.claims.proofs.CacheIds.{one-line-each-id}

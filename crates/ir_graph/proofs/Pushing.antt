@@ -12,8 +12,8 @@ use Rattle.plan.specs.Kinds.{same-ir}
 use Rattle.plan.specs.Lists.{if_then_else_, select, numbered}
 use Rattle.plan.specs.Sheet.{Step}
 use Rattle.plan.specs.Graph.{sinks}
-use Rattle.plan.specs.Stored.{table, stored-step, stored-steps}
-use Rattle.plan.specs.StoredLaws.{length-table, table-more}
+use Rattle.storage.specs.Stored.{table, stored-step, stored-steps}
+use Rattle.storage.proofs.Laws.{length-table, table-more}
 use Rattle.claims.proofs.Plans.{sinks-from}
 use Rattle.ir_graph.specs.Pushed.{Pushed}
 use Rattle.ir_graph.specs.Turns.{root}

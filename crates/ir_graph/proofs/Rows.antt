@@ -14,7 +14,7 @@ use Rattle.plan.specs.Sheet.{Step, step-at}
 use Rattle.plan.specs.Faults.{named}
 use Rattle.plan.specs.Graph.{Edge, graph, popped, hits, opens, following, edges-into, sinks, is-cache}
 use Rattle.plan.specs.Visit.{is-into}
-use Rattle.plan.specs.Stored.{stored-steps, Step-formed}
+use Rattle.storage.specs.Stored.{stored-steps, Step-formed}
 use Rattle.claims.proofs.Booleans.{differ, equal}
 use Rattle.claims.proofs.Counts.{false-of, true-of, sum-reverse, times-same, times-other, same-number, only}
 use Rattle.claims.proofs.Plans.{Plan, cache-named}

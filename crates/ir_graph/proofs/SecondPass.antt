@@ -15,8 +15,8 @@ use Rattle.plan.specs.Lists.{if_then_else_, sum, times}
 use Rattle.plan.specs.Sheet.{Step, step-at}
 use Rattle.plan.specs.Faults.{named}
 use Rattle.plan.specs.Graph.{Edge, graph, grow, popped, hits, opens, following, edges-into, sinks, is-cache, most-places}
-use Rattle.plan.specs.Stored.{stored-step, stored-steps, Step-formed}
-use Rattle.plan.specs.StoredLaws.{length-steps}
+use Rattle.storage.specs.Stored.{stored-step, stored-steps, Step-formed}
+use Rattle.storage.proofs.Laws.{length-steps}
 use Rattle.claims.proofs.Booleans.{T-eq, equal}
 use Rattle.claims.proofs.Counts.{sum-ones, times-same, times-other, only}
 use Rattle.claims.proofs.Plans.{Plan, root-there, input-there, cache-named}

@@ -11,7 +11,7 @@ use Rattle.plan.specs.Sheet.{Step, no-step, step-at}
 use Rattle.plan.specs.Faults.{named}
 use Rattle.plan.specs.Graph.{graph, sinks}
 use Rattle.plan.specs.Visit.{no-edge}
-use Rattle.plan.specs.StoredLaws.{table-at}
+use Rattle.storage.proofs.Laws.{table-at}
 use Rattle.claims.proofs.Counts.{mem-at, mem-concat, times-of, stands-in, only}
 use Rattle.claims.proofs.Edges.{same-some}
 use Rattle.claims.proofs.StepTable.{has-inputs}

@@ -8,7 +8,7 @@ use borrow.Author.Tests.{lt-ltb, le-ltb, eq-eqb, ne-eqb}
 use lib.ListN.{getD, set}
 use Rattle.plan.specs.declared.ir.IR.{IR}
 use Rattle.plan.specs.Kinds.{same-ir}
-use Rattle.plan.specs.Stored.{stored-step}
+use Rattle.storage.specs.Stored.{stored-step}
 use Rattle.ir_graph.specs.Turns.{root, cached, pushed-by, hit, followed-by, used}
 
 module _ (bytes : List ℕ) (i : ℕ) where

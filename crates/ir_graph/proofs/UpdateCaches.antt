@@ -13,11 +13,11 @@ use Rattle.plan.specs.Kinds.{ir-number, same-ir}
 use Rattle.plan.specs.Lists.{if_then_else_}
 use Rattle.plan.specs.Sheet.{Step, no-step, step-at}
 use Rattle.plan.specs.Graph.{is-cache, popped}
-use Rattle.plan.specs.Stored.{stored-steps, Step-formed}
-use Rattle.plan.specs.StoredLaws.{table-at, length-steps}
-use Rattle.plan.specs.StoredChanges.{formed-still, input-stored}
+use Rattle.storage.specs.Stored.{stored-steps, Step-formed}
+use Rattle.storage.proofs.Laws.{table-at, length-steps}
+use Rattle.storage.proofs.Changes.{formed-still, input-stored}
 use Rattle.plan.specs.Visit.{with-input}
-use Rattle.plan.specs.ListLaws.{and-left, and-right}
+use Rattle.plan.proofs.ListLaws.{and-left, and-right}
 use Rattle.claims.proofs.Stays.{reads-kept}
 use Rattle.claims.proofs.StepTable.{same-kind, in-range, has-inputs}
 use Rattle.ir_graph.specs.Turns.{cached}

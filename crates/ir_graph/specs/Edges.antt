@@ -6,7 +6,7 @@ use mathlib.Core.List.{List, _++_}
 use mathlib.Core.Option.{some}
 use lib.ListN.{length, getD}
 use Rattle.plan.specs.Graph.{Edge, edges-into}
-use Rattle.plan.specs.Stored.{table}
+use Rattle.storage.specs.Stored.{table}
 
 -- an edge as it is made: it has a producer, and is ordered
 abbrev pub made : ℕ → ℕ → ℕ → Edge

@@ -7,7 +7,7 @@ use lib.ListN.{getD, set}
 use Rattle.plan.specs.declared.ir.IR.{IR}
 use Rattle.plan.specs.Kinds.{same-ir}
 use Rattle.plan.specs.Lists.{if_then_else_}
-use Rattle.plan.specs.Stored.{stored-step}
+use Rattle.storage.specs.Stored.{stored-step}
 
 -- i, if it is a root
 unfoldable pub root : List ℕ → ℕ → List ℕ

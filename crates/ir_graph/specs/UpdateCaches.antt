@@ -7,7 +7,7 @@ use lib.ListN.{length, getD, set}
 use Rattle.plan.specs.Lists.{if_then_else_}
 use Rattle.plan.specs.Sheet.{Step, step-at}
 use Rattle.plan.specs.Graph.{is-cache, popped}
-use Rattle.plan.specs.Stored.{table}
+use Rattle.storage.specs.Stored.{table}
 use Rattle.plan.specs.Visit.{with-input}
 
 -- is k a Cache with m's id?

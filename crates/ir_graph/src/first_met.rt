@@ -2,7 +2,7 @@
 ghost use mathlib.Core.Path.{_≡_};
 ghost use Prim.Native.Nat.{ℕ, _≤_, _<_};
 ghost use lib.ListN.{getD, take};
-ghost use Rattle.plan.specs.Stored.{stored-steps, Step-formed};
+ghost use Rattle.storage.specs.Stored.{stored-steps, Step-formed};
 ghost use Rattle.claims.proofs.Plans.{Plan};
 ghost use Rattle.ir_graph.specs.UpdateCaches.{one-id, first-met, first-lines};
 use crate::hits::count_hits;

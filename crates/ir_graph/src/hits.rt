@@ -4,7 +4,7 @@ ghost use Prim.Native.Nat.{ℕ, _+_, _≤_, _<_};
 ghost use lib.Dec.{T};
 ghost use lib.ListN.{length, getD};
 ghost use Rattle.plan.specs.Graph.{popped};
-ghost use Rattle.plan.specs.Stored.{stored-steps, Step-formed};
+ghost use Rattle.storage.specs.Stored.{stored-steps, Step-formed};
 ghost use Rattle.claims.proofs.Plans.{Plan};
 ghost use Rattle.ir_graph.specs.Pushed.{Pushed};
 ghost use Rattle.ir_graph.specs.Turns.{cached, pushed-by, hit};

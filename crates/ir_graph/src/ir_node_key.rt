@@ -1,7 +1,7 @@
 // IRNodeKey: a Cache goes by its id, any other step by its line.
 ghost use mathlib.Core.Path.{_≡_};
 ghost use Prim.Native.Nat.{_<_};
-ghost use Rattle.plan.specs.Stored.{stored-step};
+ghost use Rattle.storage.specs.Stored.{stored-step};
 ghost use Rattle.ir_graph.specs.NodeKey.{node-key};
 use crate::stored::is_cache;
 

@@ -1,7 +1,7 @@
 // The roots: the Sinks by index.
 ghost use Prim.Native.Nat.{_≤_, _<_};
 ghost use Rattle.plan.specs.Graph.{sinks};
-ghost use Rattle.plan.specs.Stored.{stored-steps};
+ghost use Rattle.storage.specs.Stored.{stored-steps};
 ghost use Rattle.ir_graph.specs.Pushed.{Pushed};
 ghost use Rattle.ir_graph.specs.Turns.{root};
 use crate::stored::is_sink;

@@ -4,7 +4,7 @@ ghost use Prim.Native.Nat.{_+_, _≤_, _<_};
 ghost use lib.ListN.{length};
 ghost use Rattle.plan.specs.declared.ir.IR.{IR};
 ghost use Rattle.plan.specs.Kinds.{same-ir};
-ghost use Rattle.plan.specs.Stored.{stored-step, Step-formed};
+ghost use Rattle.storage.specs.Stored.{stored-step, Step-formed};
 ghost use Rattle.ir_graph.specs.Pushed.{Pushed};
 use plan::ir::IR;
 use plan::sizes::size_288;

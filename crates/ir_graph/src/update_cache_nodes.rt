@@ -2,7 +2,7 @@
 ghost use mathlib.Core.Path.{_≡_};
 ghost use Prim.Native.Nat.{ℕ, _≤_, _<_};
 ghost use lib.ListN.{take};
-ghost use Rattle.plan.specs.Stored.{stored-steps, Step-formed};
+ghost use Rattle.storage.specs.Stored.{stored-steps, Step-formed};
 ghost use Rattle.ir_graph.specs.UpdateCaches.{update-cache-node, update-cache-nodes, Updatable};
 use crate::stored::is_cache;
 use plan::sizes::size_1024;

@@ -3,7 +3,7 @@ use mathlib.Core.Path.{sym, subst}
 use Prim.Native.Nat.{ℕ}
 use mathlib.Core.List.{List}
 use Rattle.plan.specs.Sheet.{Step}
-use Rattle.plan.specs.Stored.{stored-steps}
+use Rattle.storage.specs.Stored.{stored-steps}
 use Rattle.claims.proofs.Plans as plans
 use Rattle.claims.proofs.Taken.{well-formed}
 use Rattle.reading.specs.declared.Counts.{Counts}

@@ -2,7 +2,7 @@
 // data/cases is made by oracle/freeze_graph_cases.py, which says how it is called and what a case is.
 ghost use Prim.Native.Nat.{ℕ, _+_, _≤_, _<_};
 ghost use lib.ListN.{length};
-ghost use Rattle.plan.specs.Stored.{stored-steps, Step-formed};
+ghost use Rattle.storage.specs.Stored.{stored-steps, Step-formed};
 ghost use Rattle.claims.proofs.Plans.{Plan};
 use ir_graph::ir_graph::build_ir_traversal_graph;
 use libc::STDOUT_FILENO;

@@ -16,7 +16,7 @@ use Rattle.plan.specs.Lists.{same, concat-map}
 use Rattle.plan.specs.Sheet.{Outcome, refused, done, refuse_when_else_}
 use Rattle.plan.specs.Text.{line, edge-line, exprs-block, steps-block, edges-block, tally-line, printed}
 use Rattle.plan.specs.Visit.{Run}
-use Rattle.plan.specs.ListLaws.{same→eq}
+use Rattle.plan.proofs.ListLaws.{same→eq}
 use Rattle.claims.specs.Demand1.{Finished-call, Refused-call}
 use Rattle.claims.proofs.Booleans.{and-both, T-eq}
 use Rattle.claims.proofs.Demand1.{demand-1}

@@ -15,8 +15,8 @@ use lib.ListN.{length, getD, drop, set}
 use lib.Seq.{drop-cons, drop-length, getD-set-same, getD-set-other}
 use Rattle.plan.specs.Lists.{if_then_else_, all?, select}
 use Rattle.plan.specs.Graph.{Edge}
-use Rattle.plan.specs.Stored.{table}
-use Rattle.plan.specs.StoredLaws.{length-table, table-at, same-table}
+use Rattle.storage.specs.Stored.{table}
+use Rattle.storage.proofs.Laws.{length-table, table-at, same-table}
 use Rattle.plan.specs.Visit.{Around, around, is-into, is-out-of, no-edge, out-edge, ins-unordered, outs-unordered, loosen, loosened, relinked}
 use Rattle.claims.specs.Demand3.{leaving-among}
 use Rattle.node_rules.specs.Held.{producer-of, held-edge, held-edges, around-with, mark}

@@ -7,8 +7,8 @@ use lib.ListN.{length, getD, take, drop, length-drop}
 use lib.Seq.{drop-cons, drop-drop, take-append-le, length-take-le, getD-take, getD-drop}
 use Rattle.plan.specs.Kinds.{ir}
 use Rattle.plan.specs.Sheet.{Step, no-step, step-at, step-of}
-use Rattle.plan.specs.Stored.{stored-step, stored-steps, Steps-held}
-use Rattle.plan.specs.StoredLaws.{table-at}
+use Rattle.storage.specs.Stored.{stored-step, stored-steps, Steps-held}
+use Rattle.storage.proofs.Laws.{table-at}
 use Rattle.node_rules.specs.declared.steps.Entries.{Entries}
 use Rattle.node_rules.specs.Held.{Is-list}
 

@@ -6,10 +6,10 @@ use mathlib.Core.List.{List}
 use lib.ListN.{length, getD, set, length-set}
 use Rattle.plan.specs.declared.ir.IR.{IR}
 use Rattle.plan.specs.Kinds.{ir, ir-number}
-use Rattle.plan.specs.KindNumbers.{ir-back}
+use Rattle.plan.proofs.KindNumbers.{ir-back}
 use Rattle.plan.specs.Sheet.{Step, step-at}
-use Rattle.plan.specs.Stored.{stored-steps, Steps-held}
-use Rattle.plan.specs.StoredChanges.{formed-still, input-stored, agg-stored, options-stored, formed-options}
+use Rattle.storage.specs.Stored.{stored-steps, Steps-held}
+use Rattle.storage.proofs.Changes.{formed-still, input-stored, agg-stored, options-stored, formed-options}
 use Rattle.plan.specs.Visit.{with-input, with-aggs}
 use Rattle.node_rules.specs.declared.rules.Ruled.{Ruled}
 use Rattle.node_rules.specs.Held.{ruled-step}

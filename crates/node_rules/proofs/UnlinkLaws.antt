@@ -9,8 +9,8 @@ use lib.ListN.{getD, drop, List·getD-eq-default}
 use lib.Seq.{getD-take, getD-drop}
 use Rattle.plan.specs.Sheet.{Step, no-step, step-at, step-of}
 use Rattle.plan.specs.Graph.{Edge}
-use Rattle.plan.specs.Stored.{stored-step, stored-steps}
-use Rattle.plan.specs.StoredLaws.{length-table, table-at}
+use Rattle.storage.specs.Stored.{stored-step, stored-steps}
+use Rattle.storage.proofs.Laws.{length-table, table-at}
 use Rattle.plan.specs.Visit.{no-edge, out-edge}
 use Rattle.claims.specs.Demand3.{leaving-among}
 use Rattle.claims.proofs.Edges.{out-edge-at}

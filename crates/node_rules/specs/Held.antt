@@ -9,7 +9,7 @@ use lib.ListN.{length, getD, set, take, replicate}
 use Rattle.plan.specs.Lists.{if_then_else_}
 use Rattle.plan.specs.Sheet.{Step, step-at}
 use Rattle.plan.specs.Graph.{Edge}
-use Rattle.plan.specs.Stored.{table}
+use Rattle.storage.specs.Stored.{table}
 use Rattle.plan.specs.Visit.{Loosened}
 use Rattle.plan.specs.Visit as Visit
 use Rattle.node_rules.specs.declared.around.Around.{Around}

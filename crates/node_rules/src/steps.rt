@@ -3,7 +3,7 @@ ghost use mathlib.Core.Path.{_≡_};
 ghost use Prim.Native.Nat.{_+_, _≤_, _<_};
 ghost use lib.ListN.{length, take, drop};
 ghost use Rattle.plan.specs.Sheet.{step-at};
-ghost use Rattle.plan.specs.Stored.{stored-steps, Steps-held};
+ghost use Rattle.storage.specs.Stored.{stored-steps, Steps-held};
 ghost use Rattle.node_rules.specs.Held.{options-of, Is-list};
 use crate::rules::Options;
 use plan::ir::IR;

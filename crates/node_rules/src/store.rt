@@ -3,7 +3,7 @@ ghost use mathlib.Core.Path.{_≡_};
 ghost use Prim.Native.Nat.{_+_, _*_, _<_};
 ghost use lib.ListN.{getD, set};
 ghost use Rattle.plan.specs.Sheet.{step-at};
-ghost use Rattle.plan.specs.Stored.{stored-steps, Steps-held};
+ghost use Rattle.storage.specs.Stored.{stored-steps, Steps-held};
 ghost use Rattle.plan.specs.Visit.{with-input, with-aggs};
 ghost use Rattle.node_rules.specs.Held.{ruled-step};
 use crate::rules::Ruled;

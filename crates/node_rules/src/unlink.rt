@@ -6,7 +6,7 @@ ghost use lib.ListN.{length};
 ghost use Rattle.plan.specs.Lists.{if_then_else_};
 ghost use Rattle.plan.specs.Visit.{relinked};
 ghost use Rattle.claims.specs.Demand3.{leaving-among};
-ghost use Rattle.plan.specs.Stored.{stored-steps, Steps-held};
+ghost use Rattle.storage.specs.Stored.{stored-steps, Steps-held};
 ghost use Rattle.node_rules.specs.Held.{held-edges, Edges-held, Unlinkable, Unlinked};
 use crate::store::store_input;
 

@@ -1,7 +1,5 @@
 pub mod Lists
-pub mod ListLaws
 pub mod Kinds
-pub mod KindNumbers
 pub mod FunctionFlags
 pub mod FunctionIR
 pub mod Sheet
@@ -9,14 +7,7 @@ pub mod Faults
 pub mod Graph
 pub mod Orders
 pub mod Look
-pub mod Stored
 pub mod Visit
 pub mod Walks
 pub mod Text
-pub mod Decimals
-pub mod StoredLaws
-pub mod StoredChanges
-pub mod StoredAppend
 pub mod Finished
-pub mod Computing
-pub mod Cases

@@ -6,7 +6,7 @@ use mathlib.Core.List.{List}
 use lib.ListN.{length}
 use Rattle.plan.specs.Sheet.{Sheet, Outcome, refused, done, _then_, read}
 use Rattle.plan.specs.Faults.{checked}
-use Rattle.plan.specs.Stored.{stored-exprs, stored-steps, Steps-held}
+use Rattle.storage.specs.Stored.{stored-exprs, stored-steps, Steps-held}
 use Rattle.reading.specs.Plan.{plan-of, Plan-is, Plan-held}
 use Rattle.reading.specs.Held.{Exprs-held}
 use Rattle.reading.specs.declared.Counts.{Counts}

@@ -12,12 +12,12 @@ use lib.Seq.{ext-getD, getD-take, length-take-le}
 use borrow.Author.Tests.{ltb-true, leb-true, eqb-true, lt-ltb, le-ltb, le-leb, lt-leb}
 use Rattle.plan.specs.declared.ir.IR.{IR}
 use Rattle.plan.specs.Kinds.{aexpr-number, ir-number, same-ir}
-use Rattle.plan.specs.KindNumbers.{aexpr-there, ir-there}
+use Rattle.plan.proofs.KindNumbers.{aexpr-there, ir-there}
 use Rattle.plan.specs.Lists.{if_then_else_, sum, empty?, same, yes?}
 use Rattle.plan.specs.Sheet.{Expr, Step, Sheet, E, P, refused, done, refuse_when_else_, lettered, expr-of, step-of, expr-fits, step-fits, in-expr-table, in-step-table, expr-count, over-limits, with-expr, with-step, read-line}
-use Rattle.plan.specs.Stored.{stored-exprs, stored-steps, table}
-use Rattle.plan.specs.StoredLaws.{length-exprs, length-steps}
-use Rattle.plan.specs.StoredChanges.{step-take}
+use Rattle.storage.specs.Stored.{stored-exprs, stored-steps, table}
+use Rattle.storage.proofs.Laws.{length-exprs, length-steps}
+use Rattle.storage.proofs.Changes.{step-take}
 use Rattle.reading.specs.Line.{line, ended, numbers-after, numbers-of, Kept, All-read}
 use Rattle.reading.specs.Tables.{row, expr-numbers-fit, step-numbers-fit, most-a, most-b, most-c, inputs, exprs, most-aggs, within}
 use Rattle.reading.specs.Lines.{pasted, sheet-of, agg-entries, aggs-of, Sound, Line-taken}

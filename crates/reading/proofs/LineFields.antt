@@ -13,7 +13,7 @@ use native.Mathlib.Nat.{le-refl, not-suc-le-zero}
 use borrow.Author.Tests.{ltb-true, ltb-false, eq-eqb, ne-eqb, eqb-true}
 use Rattle.plan.specs.Lists.{if_then_else_}
 use Rattle.plan.specs.Sheet.{parts, onto, numbers, number, cons?}
-use Rattle.plan.specs.ListLaws.{part-from}
+use Rattle.plan.proofs.ListLaws.{part-from}
 use Rattle.reading.specs.Number.{separator?, field, number-at, found, width}
 use Rattle.reading.specs.Line.{line, ended, numbers-after, numbers-of, field-of, field-at, placed, Kept, Numbers-read}
 use Rattle.reading.specs.declared.number.Number.{Number}

@@ -16,8 +16,8 @@ use Rattle.plan.specs.Kinds.{same-aexpr}
 use Rattle.plan.specs.Lists.{all?, numbered, among, times, rest}
 use Rattle.plan.specs.Sheet.{Expr, expr-at, no-expr}
 use Rattle.plan.specs.Faults.{children-earlier, evaluated, fields-right}
-use Rattle.plan.specs.Stored.{stored-expr, stored-exprs}
-use Rattle.plan.specs.StoredLaws.{length-table, table-at}
+use Rattle.storage.specs.Stored.{stored-expr, stored-exprs}
+use Rattle.storage.proofs.Laws.{length-table, table-at}
 use Rattle.reading.specs.Held.{children-of, Exprs-held}
 use Rattle.reading.specs.Uses.{Counted}
 use Rattle.reading.specs.Marks.{marked-by, markings, field-marked}

@@ -15,9 +15,9 @@ use Rattle.plan.specs.Kinds.{same-ir}
 use Rattle.plan.specs.Lists.{if_then_else_, all?, select, sum, concat-map, numbered, times}
 use Rattle.plan.specs.Sheet.{Expr, Step}
 use Rattle.plan.specs.Faults.{exprs-named, named, cache-ids, uses-right}
-use Rattle.plan.specs.Stored.{stored-expr, stored-step, stored-exprs, stored-steps, table}
-use Rattle.plan.specs.StoredLaws.{table-more}
-use Rattle.plan.specs.ListLaws.{sum-append}
+use Rattle.storage.specs.Stored.{stored-expr, stored-step, stored-exprs, stored-steps, table}
+use Rattle.storage.proofs.Laws.{table-more}
+use Rattle.plan.proofs.ListLaws.{sum-append}
 use Rattle.reading.specs.Held.{children-of, count-of, both, sheet}
 use Rattle.reading.specs.Uses.{capped, Counted, all-children, all-both, id-of, used, exprs-once, steps-used, ids-once, once-in, used-in, id-once-in}
 use Rattle.reading.proofs.Scans.{children-are, inputs-are, both-are, step-kind, step-a, step-kind-is}

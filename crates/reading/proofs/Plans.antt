@@ -9,8 +9,8 @@ use borrow.Author.Tests.{lt-ltb, le-ltb}
 use Rattle.plan.specs.Lists.{all?, numbered}
 use Rattle.plan.specs.Sheet.{Sheet, Outcome, refused, done, _then_, refuse_when_else_, read, read-lines, parts, no-lines, no-plan}
 use Rattle.plan.specs.Faults.{checked, references-right, uses-right, fields-right, children-earlier}
-use Rattle.plan.specs.Stored.{stored-expr, stored-step, stored-exprs, stored-steps, Steps-held}
-use Rattle.plan.specs.StoredLaws.{length-table}
+use Rattle.storage.specs.Stored.{stored-expr, stored-step, stored-exprs, stored-steps, Steps-held}
+use Rattle.storage.proofs.Laws.{length-table}
 use Rattle.reading.specs.Held.{Exprs-held, sheet}
 use Rattle.reading.specs.Lines.{Sound, All-taken, Lines-read}
 use Rattle.reading.specs.Plan.{plan-of, checked-plan, Plan-is}

@@ -12,8 +12,8 @@ use Rattle.plan.specs.Kinds.{same-ir}
 use Rattle.plan.specs.Lists.{all?, numbered}
 use Rattle.plan.specs.Sheet.{Expr, Step, step-at, no-step}
 use Rattle.plan.specs.Faults.{children-earlier, inputs-earlier, exprs-there, references-right}
-use Rattle.plan.specs.Stored.{stored-expr, stored-step, stored-exprs, stored-steps}
-use Rattle.plan.specs.StoredLaws.{length-table, table-at}
+use Rattle.storage.specs.Stored.{stored-expr, stored-step, stored-exprs, stored-steps}
+use Rattle.storage.proofs.Laws.{length-table, table-at}
 use Rattle.reading.specs.Held.{children-of, count-of, both, before-no-sink, sheet}
 use Rattle.reading.proofs.Scans.{children-are, inputs-are, both-are, step-kind, step-kind-is, lines-from, from-first}
 

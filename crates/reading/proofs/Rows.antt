@@ -9,7 +9,7 @@ use lib.ListN.{length, getD, List·getD-eq-default}
 use borrow.Author.Tests.{lt-ltb, le-ltb, le-leb, lt-leb, eq-eqb, ne-eqb, leb-true}
 use Rattle.plan.specs.Lists.{among}
 use Rattle.plan.specs.Sheet.{step-table}
-use Rattle.plan.specs.ListLaws.{and-left, and-right}
+use Rattle.plan.proofs.ListLaws.{and-left, and-right}
 use Rattle.reading.specs.Tables.{row-of, row, expr-numbers-fit, limits, counts, most-a, most-b, most-c, inputs, exprs, most-aggs, within, step-numbers-fit}
 use Rattle.reading.specs.declared.tables.Row.{Row}
 use Rattle.reading.specs.declared.tables.Counts.{Counts}

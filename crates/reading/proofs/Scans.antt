@@ -13,11 +13,11 @@ use borrow.Author.Tests.{ne-eqb}
 use Rattle.plan.specs.declared.aexpr.AExpr.{AExpr}
 use Rattle.plan.specs.declared.ir.IR.{IR}
 use Rattle.plan.specs.Kinds.{aexprs, aexpr, aexpr-number, irs, ir, ir-number}
-use Rattle.plan.specs.KindNumbers.{aexpr-there, ir-there}
+use Rattle.plan.proofs.KindNumbers.{aexpr-there, ir-there}
 use Rattle.plan.specs.Lists.{all?, numbered}
 use Rattle.plan.specs.Sheet.{expr-of, step-of}
-use Rattle.plan.specs.Stored.{stored-expr, stored-step, table}
-use Rattle.plan.specs.ListLaws.{drop-take}
+use Rattle.storage.specs.Stored.{stored-expr, stored-step, table}
+use Rattle.plan.proofs.ListLaws.{drop-take}
 use Rattle.reading.specs.Held.{children-of, count-of, both}
 
 -- a count that goes down as an index goes up

@@ -8,7 +8,7 @@ use native.Mathlib.Decide.{decLe}
 use lib.Dec.{T}
 use borrow.Author.Tests.{ne-eqb}
 use Rattle.plan.specs.Lists.{any?, among}
-use Rattle.plan.specs.ListLaws.{and-left, and-right}
+use Rattle.plan.proofs.ListLaws.{and-left, and-right}
 
 pub or-left : (a : Bool) {b : Bool} → b ≡ false → T (a || b) → T a
 or-left true e t = tt

@@ -6,9 +6,9 @@ use native.Mathlib.Numerals.{add-one}
 use native.Mathlib.Omega.{arith}
 use native.Mathlib.Decide.{ℕ-discrete}
 use Rattle.plan.specs.Sheet.{expr-of, step-of}
-use Rattle.plan.specs.Stored.{stored-expr, stored-step, stored-exprs, stored-steps, table, Expr-formed, Step-formed}
-use Rattle.plan.specs.StoredLaws.{table-more, same-table}
-use Rattle.plan.specs.StoredChanges.{step-take}
+use Rattle.storage.specs.Stored.{stored-expr, stored-step, stored-exprs, stored-steps, table, Expr-formed, Step-formed}
+use Rattle.storage.proofs.Laws.{table-more, same-table}
+use Rattle.storage.proofs.Changes.{step-take}
 use Rattle.reading.specs.Lines.{pasted}
 use Rattle.reading.specs.Held.{children-of, count-of}
 use lib.ListN.{length, getD, take, drop, set, length-set, length-drop, take-append-drop, List·getD-append}

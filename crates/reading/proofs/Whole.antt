@@ -11,8 +11,8 @@ use lib.ListN.{length, getD, take, drop}
 use borrow.Author.Tests.{ne-eqb}
 use Rattle.plan.specs.Lists.{if_then_else_, empty?, same, sum}
 use Rattle.plan.specs.Sheet.{Sheet, Line, refused, done, _then_, parts, onto, numbers, lettered, line-of, read-line, read-lines, no-lines}
-use Rattle.plan.specs.Stored.{stored-exprs, stored-steps, table}
-use Rattle.plan.specs.ListLaws.{part-from}
+use Rattle.storage.specs.Stored.{stored-exprs, stored-steps, table}
+use Rattle.plan.proofs.ListLaws.{part-from}
 use Rattle.reading.specs.Line.{line, ended, line-here, numbers-after, numbers-of}
 use Rattle.reading.specs.Lines.{sheet-of, agg-entries, Sound, Line-taken, Line-read, All-taken}
 use Rattle.reading.specs.declared.lines.Tally.{Tally}

@@ -5,7 +5,7 @@ use mathlib.Core.Bool.{Bool, _&&_, not}
 use lib.Dec.{eqb, ltb}
 use lib.ListN.{getD}
 use Rattle.plan.specs.Sheet.{Step, Sheet}
-use Rattle.plan.specs.Stored.{stored-exprs, stored-steps, Expr-formed, Step-formed}
+use Rattle.storage.specs.Stored.{stored-exprs, stored-steps, Expr-formed, Step-formed}
 
 -- the counts in the bytes of an E line and of a P line
 abbrev pub children-of : List ℕ → ℕ → ℕ

@@ -11,7 +11,7 @@ use Rattle.plan.specs.declared.ir.IR.{IR}
 use Rattle.plan.specs.Kinds.{same-ir}
 use Rattle.plan.specs.Lists.{if_then_else_, sum}
 use Rattle.plan.specs.Sheet.{Sheet, Step, Line, refused, done, read-line, parts, read-lines, no-lines}
-use Rattle.plan.specs.Stored.{stored-exprs, stored-steps, Expr-formed, Step-formed}
+use Rattle.storage.specs.Stored.{stored-exprs, stored-steps, Expr-formed, Step-formed}
 use Rattle.reading.specs.Line.{line, ended}
 use Rattle.reading.specs.declared.lines.Tally.{Tally}
 use Rattle.reading.specs.declared.lines.Reading.{Reading}

@@ -7,7 +7,7 @@ use Rattle.plan.specs.declared.aexpr.AExpr.{AExpr}
 use Rattle.plan.specs.Kinds.{same-aexpr}
 use Rattle.plan.specs.Lists.{if_then_else_, times, rest}
 use Rattle.plan.specs.Sheet.{Expr}
-use Rattle.plan.specs.Stored.{stored-expr}
+use Rattle.storage.specs.Stored.{stored-expr}
 
 -- what line i marks, given the lines marked before
 unfoldable pub marked-by : List ℕ → List ℕ → ℕ → List ℕ

@@ -5,7 +5,7 @@ use mathlib.Core.List.{List}
 use lib.ListN.{length}
 use Rattle.plan.specs.Sheet.{Sheet, Outcome, refused, done, _then_, refuse_when_else_, read, no-plan}
 use Rattle.plan.specs.Faults.{checked}
-use Rattle.plan.specs.Stored.{stored-exprs, stored-steps, Steps-held}
+use Rattle.storage.specs.Stored.{stored-exprs, stored-steps, Steps-held}
 use Rattle.reading.specs.Held.{Exprs-held}
 use Rattle.reading.specs.declared.Plan.{Plan}
 use Rattle.reading.specs.declared.Plan.the-variants.{Taken, Refused}

@@ -7,7 +7,7 @@ ghost use mathlib.Core.List.{List, [], _++_};
 ghost use Prim.Native.Nat.{ℕ, _≤_, _<_};
 ghost use Rattle.plan.specs.Lists.{all?, numbered};
 ghost use Rattle.plan.specs.Faults.{children-earlier, fields-right};
-ghost use Rattle.plan.specs.Stored.{stored-exprs};
+ghost use Rattle.storage.specs.Stored.{stored-exprs};
 ghost use Rattle.reading.specs.Held.{children-of, Exprs-held};
 ghost use Rattle.reading.specs.Uses.{Counted};
 ghost use Rattle.reading.specs.Marks.{marked-by, markings, field-marked};

@@ -1,5 +1,5 @@
 // From the bytes of a sheet to its plan: refusals 2 to 9 of document 01.
-ghost use Rattle.plan.specs.Stored.{Steps-held};
+ghost use Rattle.storage.specs.Stored.{Steps-held};
 ghost use Rattle.reading.specs.Held.{Exprs-held, sheet};
 ghost use Rattle.reading.specs.Plan.{checked-plan, plan-of, Plan-is, Plan-held};
 use crate::lines::Lines;

@@ -7,7 +7,7 @@ ghost use lib.ListN.{length, take, drop};
 ghost use Rattle.plan.specs.Lists.{all?, numbered};
 ghost use Rattle.plan.specs.Sheet.{Expr};
 ghost use Rattle.plan.specs.Faults.{children-earlier, inputs-earlier, references-right};
-ghost use Rattle.plan.specs.Stored.{stored-expr, stored-step, stored-exprs, stored-steps, Steps-held};
+ghost use Rattle.storage.specs.Stored.{stored-expr, stored-step, stored-exprs, stored-steps, Steps-held};
 ghost use Rattle.reading.specs.Held.{children-of, Exprs-held, Step-held, sheet, both, before-no-sink};
 
 fn wide(x: u8) -> usize

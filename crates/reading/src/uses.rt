@@ -7,7 +7,7 @@ ghost use lib.Dec.{eqb};
 ghost use lib.ListN.{length, take, drop};
 ghost use Rattle.plan.specs.Lists.{all?, numbered, times};
 ghost use Rattle.plan.specs.Faults.{cache-ids, named, uses-right};
-ghost use Rattle.plan.specs.Stored.{stored-exprs, stored-steps, Steps-held};
+ghost use Rattle.storage.specs.Stored.{stored-exprs, stored-steps, Steps-held};
 ghost use Rattle.reading.specs.Held.{Exprs-held, sheet};
 ghost use Rattle.reading.specs.Uses.{Counted, all-children, all-both, exprs-once, steps-used, ids-once, used, id-of, once-in, used-in, id-once-in};
 

@@ -9,7 +9,7 @@ use lib.ListN.{length, take, drop, length-append, length-drop}
 use lib.Seq.{take-all}
 use Rattle.plan.specs.Sheet.{Sheet, Outcome, refused, done, _then_}
 use Rattle.plan.specs.Graph.{graph}
-use Rattle.plan.specs.Stored.{stored-steps}
+use Rattle.storage.specs.Stored.{stored-steps}
 use Rattle.plan.specs.Visit.{Run}
 use Rattle.plan.specs.Walks.{walk, begin, down, up, simplify-and-fetch-orderings}
 use Rattle.claims.specs.WellFormed.{WellFormed}

@@ -11,9 +11,9 @@ use lib.Seq.{getD-set-same, getD-set-other, set-getD}
 use Rattle.plan.specs.Lists.{if_then_else_}
 use Rattle.plan.specs.Sheet.{Expr, Step, no-expr, no-step, expr-at, step-at}
 use Rattle.plan.specs.Look.{switched-off}
-use Rattle.plan.specs.Stored.{stored-expr, held-expr, arena-of, Expr-formed}
-use Rattle.plan.specs.StoredLaws.{table-at}
-use Rattle.plan.specs.StoredAppend.{with-implode, arena-appended, others-kept, implode-stored, old-formed, new-formed}
+use Rattle.storage.specs.Stored.{stored-expr, held-expr, arena-of, Expr-formed}
+use Rattle.storage.proofs.Laws.{table-at}
+use Rattle.storage.proofs.Append.{with-implode, arena-appended, others-kept, implode-stored, old-formed, new-formed}
 use Rattle.plan.specs.Visit.{implode, implode-over, with-aggs}
 use Rattle.expr.specs.State.{Falls, sorts}
 use Rattle.expr.proofs.Records.{stored}

@@ -12,10 +12,10 @@ use Rattle.plan.specs.declared.orders.ObservableOrders.{ObservableOrders}
 use Rattle.plan.specs.Kinds.{ir-number}
 use Rattle.plan.specs.Sheet.{Expr, Step, no-step, step-at}
 use Rattle.plan.specs.Look as plan
-use Rattle.plan.specs.Stored.{arena-of, stored-steps, Steps-held}
+use Rattle.storage.specs.Stored.{arena-of, stored-steps, Steps-held}
 use Rattle.plan.specs.Visit.{imploded, with-implodes, with-aggs, allow-deordering-top, looks-of}
 use Rattle.plan.specs.Visit as Visit
-use Rattle.plan.specs.StoredLaws.{length-arena}
+use Rattle.storage.proofs.Laws.{length-arena}
 use Rattle.claims.proofs.Counts.{mem-at}
 use Rattle.tally.specs.declared.Tally.{Tally}
 use Rattle.expr.specs.Contract.{looked-of}

@@ -18,7 +18,7 @@ use Rattle.plan.specs.Graph.{Edge}
 use Rattle.plan.specs.Visit.{Run, Around, Observable, Looked, around, looks-of, looked-in, rule, ruling, refusal-in, settled, settle, goes, unlink-node, one-visit, simplify-ir-node-orders}
 use Rattle.plan.specs.Visit as Visit
 use Rattle.plan.specs.Visit.{no-edge}
-use Rattle.plan.specs.StoredLaws.{length-table, table-at, length-steps}
+use Rattle.storage.proofs.Laws.{length-table, table-at, length-steps}
 use Rattle.tally.specs.declared.Tally.{Tally}
 use Rattle.node_rules.specs.declared.around.Around as code
 use Rattle.node_rules.specs.declared.rules.Options.{Options}

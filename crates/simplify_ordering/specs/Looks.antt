@@ -7,7 +7,7 @@ use lib.ListN.{length, set}
 use Rattle.plan.specs.declared.orders.ObservableOrders.{ObservableOrders}
 use Rattle.plan.specs.Sheet.{Expr, Step}
 use Rattle.plan.specs.Look.{Eos, simplify-projected-exprs}
-use Rattle.plan.specs.Stored.{arena-of, stored-steps, Steps-held}
+use Rattle.storage.specs.Stored.{arena-of, stored-steps, Steps-held}
 use Rattle.plan.specs.Visit.{expr-order-simplifier}
 use Rattle.plan.specs.Visit as Visit
 use Rattle.tally.specs.declared.Tally.{Tally}

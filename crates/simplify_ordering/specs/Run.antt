@@ -8,7 +8,7 @@ use Rattle.plan.specs.declared.ir.IR.{IR}
 use Rattle.plan.specs.Lists.{if_then_else_}
 use Rattle.plan.specs.Sheet.{Step, Outcome, refused, done, step-at}
 use Rattle.plan.specs.Graph.{Edge}
-use Rattle.plan.specs.Stored.{arena-of, stored-steps, Steps-held}
+use Rattle.storage.specs.Stored.{arena-of, stored-steps, Steps-held}
 use Rattle.plan.specs.Visit.{Run, rule, loosened, join-fails, sink-fails, looked-in}
 use Rattle.plan.specs.Visit as Visit
 use Rattle.tally.specs.declared.Tally.{Tally}

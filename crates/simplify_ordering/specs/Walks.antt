@@ -6,7 +6,7 @@ use mathlib.Core.List.{List, _∷_, _++_}
 use lib.ListN.{length, set, take}
 use Rattle.plan.specs.Sheet.{Sheet, Outcome, refused, done}
 use Rattle.plan.specs.Graph.{graph}
-use Rattle.plan.specs.Stored.{arena-of, stored-steps}
+use Rattle.storage.specs.Stored.{arena-of, stored-steps}
 use Rattle.plan.specs.Visit.{Run, simplify-ir-node-orders}
 use Rattle.plan.specs.Walks.{walk, down}
 use Rattle.claims.specs.WellFormed.{WellFormed}

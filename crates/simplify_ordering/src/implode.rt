@@ -4,7 +4,7 @@ ghost use mathlib.Core.List.{[], _∷_, _++_, List·Memᴰ};
 ghost use Prim.Native.Nat.{ℕ, _+_, _*_, _≤_, _<_};
 ghost use lib.ListN.{length, getD, set};
 ghost use Rattle.plan.specs.Sheet.{expr-at, step-at};
-ghost use Rattle.plan.specs.Stored.{arena-of, stored-steps, Steps-held};
+ghost use Rattle.storage.specs.Stored.{arena-of, stored-steps, Steps-held};
 ghost use Rattle.plan.specs.Visit.{implode, imploded, implode-over, with-aggs};
 ghost use Rattle.simplify_ordering.specs.Arena.{Arena-held};
 ghost use Rattle.node_rules.specs.Held.{with-agg};

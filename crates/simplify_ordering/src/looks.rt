@@ -4,7 +4,7 @@ ghost use mathlib.Core.List.{List·Memᴰ};
 ghost use Prim.Native.Nat.{ℕ, _≤_, _<_};
 ghost use lib.ListN.{length, set, take};
 ghost use Rattle.plan.specs.Sheet.{step-at};
-ghost use Rattle.plan.specs.Stored.{arena-of, stored-steps, Steps-held};
+ghost use Rattle.storage.specs.Stored.{arena-of, stored-steps, Steps-held};
 ghost use Rattle.plan.specs.Visit.{with-implodes, with-aggs, looks-of};
 ghost use Rattle.simplify_ordering.specs.Arena.{Arena-held};
 ghost use Rattle.node_rules.specs.Held.{around-of, options-of};

@@ -8,7 +8,7 @@ ghost use Rattle.plan.specs.Kinds.{same-ir};
 ghost use Rattle.plan.specs.declared.ir.IR.{IR};
 ghost use Rattle.plan.specs.Lists.{yes?};
 ghost use Rattle.plan.specs.Sheet.{step-at};
-ghost use Rattle.plan.specs.Stored.{stored-steps, Steps-held};
+ghost use Rattle.storage.specs.Stored.{stored-steps, Steps-held};
 ghost use Rattle.plan.specs.Visit.{around, settle, simplify-ir-node-orders};
 ghost use Rattle.claims.specs.Visitable.{Visitable};
 ghost use Rattle.node_rules.specs.Held.{held-edges, around-of, observable-of, options-of};

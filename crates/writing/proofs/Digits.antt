@@ -6,7 +6,7 @@ use native.Mathlib.Omega.{arith}
 use native.Mathlib.Decide.{decLt}
 use lib.ListN.{length, set, length-append}
 use Rattle.plan.specs.Text.{decimal}
-use Rattle.plan.specs.Decimals.{decimal-one, decimal-more, decimal-short}
+use Rattle.plan.proofs.Decimals.{decimal-one, decimal-more, decimal-short}
 use Rattle.writing.specs.Wrote.{Wrote, field}
 
 pub put-one : (b : ℕ) (o : List ℕ) → 1 ≤ length o → Wrote (b ∷ []) o (set o 0 b) 1

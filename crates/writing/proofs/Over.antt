@@ -7,9 +7,9 @@ use native.Mathlib.Numerals.{add-one}
 use lib.ListN.{length, getD, take, drop, length-append, length-drop}
 use lib.Seq.{take-all, take-append-seam, drop-append-seam, drop-drop, drop-length, take-suc}
 use Rattle.plan.specs.Lists.{concat-map}
-use Rattle.plan.specs.Stored.{table}
-use Rattle.plan.specs.StoredLaws.{table-more}
-use Rattle.plan.specs.ListLaws.{part-from}
+use Rattle.storage.specs.Stored.{table}
+use Rattle.storage.proofs.Laws.{table-more}
+use Rattle.plan.proofs.ListLaws.{part-from}
 use Rattle.writing.specs.Wrote.{Wrote}
 
 part-rest : (s : List ℕ) (a : ℕ) → drop (length s - a) (drop a s) ≡ []

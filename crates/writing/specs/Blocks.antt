@@ -6,7 +6,7 @@ use mathlib.Core.List.{List, _++_}
 use mathlib.Core.Option.{none}
 use lib.ListN.{length, getD, drop}
 use Rattle.plan.specs.Graph.{Edge}
-use Rattle.plan.specs.Stored.{table}
+use Rattle.storage.specs.Stored.{table}
 use Rattle.plan.specs.declared.answer.Finished.{Finished}
 
 -- the edges; their producers are not printed

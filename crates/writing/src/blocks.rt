@@ -3,7 +3,7 @@ ghost use Prim.Native.Nat.{ℕ, _+_, _≤_, _<_};
 ghost use lib.ListN.{length};
 ghost use Rattle.plan.specs.Lists.{concat-map};
 ghost use Rattle.plan.specs.Text.{expr-line, step-line, edge-line};
-ghost use Rattle.plan.specs.Stored.{stored-expr, stored-step, stored-exprs, stored-steps, Expr-formed, Step-formed};
+ghost use Rattle.storage.specs.Stored.{stored-expr, stored-step, stored-exprs, stored-steps, Expr-formed, Step-formed};
 ghost use Rattle.writing.specs.Wrote.{Wrote};
 ghost use Rattle.writing.specs.Blocks.{stored-edges};
 use crate::lines::put_edge;

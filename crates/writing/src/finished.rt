@@ -5,7 +5,7 @@ ghost use Prim.Native.Nat.{ℕ, _≤_, _<_};
 ghost use lib.ListN.{length};
 ghost use Rattle.plan.specs.Lists.{concat-map};
 ghost use Rattle.plan.specs.Text.{line, expr-line, step-line, edge-line};
-ghost use Rattle.plan.specs.Stored.{stored-exprs, stored-steps, Expr-formed, Step-formed};
+ghost use Rattle.storage.specs.Stored.{stored-exprs, stored-steps, Expr-formed, Step-formed};
 ghost use Rattle.writing.specs.Blocks.{stored-edges, Sheet-wrote};
 use crate::blocks::put_edges;
 use crate::blocks::put_exprs;

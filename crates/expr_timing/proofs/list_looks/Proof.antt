@@ -9,7 +9,7 @@ use Rattle.plan.specs.declared.orders.ObservableOrders.{ObservableOrders}
 use Rattle.plan.specs.Sheet.{Expr}
 use Rattle.plan.specs.Look.{simplify-projected-exprs}
 use Rattle.plan.specs.Look as plan
-use Rattle.plan.specs.Stored.{arena-of, stored-exprs}
+use Rattle.storage.specs.Stored.{arena-of, stored-exprs}
 use Rattle.plan.specs.Visit.{expr-order-simplifier}
 use Rattle.expr.specs.Projected.{Started, ListGives}
 use Rattle.expr.specs.State.{State, eos-of, Falls}

@@ -4,8 +4,8 @@ use Prim.Native.Nat.{_-_, _≤_}
 use native.Mathlib.Omega.{arith}
 use borrow.Author.Needs.{needs}
 use lib.ListN.{length, take, length-set}
-use Rattle.plan.specs.Stored.{table, stored-steps}
-use Rattle.plan.specs.StoredLaws.{length-steps}
+use Rattle.storage.specs.Stored.{table, stored-steps}
+use Rattle.storage.proofs.Laws.{length-steps}
 use Rattle.ir_graph.specs.UpdateCaches.{first-met}
 use Rattle.ir_graph.proofs.FirstPass.{zeros}
 use Rattle.ir_graph.proofs.FirstMet.{none-noted, one-noted, all-noted}

@@ -4,7 +4,7 @@ use native.Mathlib.Omega.{arith}
 use borrow.Author.Needs.{needs}
 use lib.ListN.{getD, replicate, length-replicate}
 use Rattle.plan.specs.Graph.{most-places}
-use Rattle.plan.specs.Stored.{stored-steps}
+use Rattle.storage.specs.Stored.{stored-steps}
 use Rattle.ir_graph.proofs.FirstPass.{Popping, Turn, begins, hits-ended, turns-ended, noted-ended, turn, popping-next}
 use Rattle.ir_graph.proofs.hits.count_hits.Statement.{statement}
 use Rattle.ir_graph.proofs.hits.count_hits.Tie as tie

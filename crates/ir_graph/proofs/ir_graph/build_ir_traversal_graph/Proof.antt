@@ -1,7 +1,7 @@
 use denote.Ref.{now}
 use native.Mathlib.Omega.{arith}
-use Rattle.plan.specs.Stored.{stored-steps}
-use Rattle.plan.specs.StoredLaws.{length-steps}
+use Rattle.storage.specs.Stored.{stored-steps}
+use Rattle.storage.proofs.Laws.{length-steps}
 use Rattle.ir_graph.proofs.FirstPass.{zeros}
 use Rattle.ir_graph.proofs.Outs.{out-edges}
 use Rattle.ir_graph.proofs.ir_graph.build_ir_traversal_graph.Statement.{statement}

@@ -5,7 +5,7 @@ use borrow.Author.Needs.{needs}
 use lib.ListN.{length, getD}
 use Rattle.plan.specs.Faults.{named}
 use Rattle.plan.specs.Graph.{sinks}
-use Rattle.plan.specs.Stored.{stored-steps}
+use Rattle.storage.specs.Stored.{stored-steps}
 use Rattle.ir_graph.proofs.SecondPass.{Turn}
 use Rattle.ir_graph.proofs.Graphs.{Placing, placing, turn-at, places-left, placing-next, built}
 use Rattle.ir_graph.proofs.ir_graph.grow.Statement.{statement}

@@ -4,7 +4,7 @@ use Prim.Native.Nat.{_-_, _≤_}
 use native.Mathlib.Omega.{arith}
 use borrow.Author.Needs.{needs}
 use Rattle.plan.specs.Graph.{sinks}
-use Rattle.plan.specs.Stored.{stored-steps}
+use Rattle.storage.specs.Stored.{stored-steps}
 use Rattle.ir_graph.specs.Pushed.{Pushed}
 use Rattle.ir_graph.proofs.Pushing.{no-roots, next-root, few-roots}
 use Rattle.ir_graph.proofs.roots.push_roots.Statement.{statement}

@@ -4,8 +4,8 @@ use Prim.Native.Nat.{ℕ, _-_, _≤_, _<_}
 use native.Mathlib.Omega.{arith}
 use borrow.Author.Needs.{needs}
 use lib.ListN.{take}
-use Rattle.plan.specs.Stored.{stored-steps, Step-formed}
-use Rattle.plan.specs.StoredLaws.{length-steps}
+use Rattle.storage.specs.Stored.{stored-steps, Step-formed}
+use Rattle.storage.proofs.Laws.{length-steps}
 use Rattle.ir_graph.specs.UpdateCaches.{update-lines, Updatable}
 use Rattle.ir_graph.proofs.UpdateCaches.{no-lines, next-line, all-lines}
 use Rattle.ir_graph.proofs.update_cache_nodes.update_cache_nodes.Statement.{statement}

@@ -1,5 +1,5 @@
 use denote.Ref.{now}
-use Rattle.plan.specs.KindNumbers.{ir-small}
+use Rattle.plan.proofs.KindNumbers.{ir-small}
 use Rattle.node_rules.proofs.StoreLaws.{options-law, options-held}
 use borrow.Author.Needs.{needs}
 use Rattle.node_rules.proofs.store.store_options.Statement.{statement}

@@ -5,7 +5,7 @@ use mathlib.Core.List.{List}
 use Prim.Native.Nat.{ℕ, _-_, _≤_}
 use Rattle.plan.specs.Lists.{all?, numbered}
 use borrow.Author.Tests.{not-true, not-false}
-use Rattle.plan.specs.Stored.{stored-expr, stored-exprs}
+use Rattle.storage.specs.Stored.{stored-expr, stored-exprs}
 use Rattle.reading.specs.Uses.{Counted}
 use Rattle.reading.specs.Marks.{field-marked}
 use Rattle.reading.proofs.Marking.{field-is}

@@ -4,7 +4,7 @@ use Prim.Native.Nat.{_-_, _≤_}
 use borrow.Author.Tests.{not-true, not-false}
 use Rattle.plan.specs.Lists.{all?, numbered}
 use Rattle.plan.specs.Faults.{children-earlier}
-use Rattle.plan.specs.Stored.{stored-expr, stored-exprs}
+use Rattle.storage.specs.Stored.{stored-expr, stored-exprs}
 use Rattle.reading.proofs.Scans.{lines-from, line-fails, line-passes, lines-pass}
 use Rattle.reading.proofs.Refers.{exprs-first}
 use Rattle.reading.proofs.references.all_children_earlier.Statement.{statement}

@@ -4,7 +4,7 @@ use Prim.Native.Nat.{_-_, _≤_}
 use borrow.Author.Tests.{not-true, not-false}
 use Rattle.plan.specs.Lists.{all?, numbered}
 use lib.Dec.{ltb}
-use Rattle.plan.specs.Stored.{stored-step, stored-steps}
+use Rattle.storage.specs.Stored.{stored-step, stored-steps}
 use Rattle.reading.specs.Held.{both}
 use Rattle.reading.proofs.Scans.{lines-from, line-fails, line-passes, lines-pass}
 use Rattle.reading.proofs.Refers.{steps-first}

@@ -6,7 +6,7 @@ use borrow.Author.Tests.{not-true, not-false}
 use Rattle.plan.specs.Lists.{all?, numbered}
 use Rattle.plan.specs.Sheet.{Expr}
 use Rattle.plan.specs.Faults.{inputs-earlier}
-use Rattle.plan.specs.Stored.{stored-step, stored-steps}
+use Rattle.storage.specs.Stored.{stored-step, stored-steps}
 use Rattle.reading.proofs.Scans.{lines-from, line-fails, line-passes, lines-pass}
 use Rattle.reading.proofs.Refers.{steps-first}
 use Rattle.reading.proofs.references.all_inputs_earlier.Statement.{statement}

@@ -5,7 +5,7 @@ use mathlib.Core.List.{List}
 use Prim.Native.Nat.{ℕ, _-_, _≤_}
 use Rattle.plan.specs.Lists.{all?, numbered}
 use borrow.Author.Tests.{not-true, not-false}
-use Rattle.plan.specs.Stored.{stored-step, stored-steps}
+use Rattle.storage.specs.Stored.{stored-step, stored-steps}
 use Rattle.reading.specs.Uses.{Counted, id-once-in}
 use Rattle.reading.proofs.Names.{id-is}
 use Rattle.reading.proofs.Scans.{lines-from, line-fails, line-passes, lines-pass}

@@ -2,7 +2,7 @@ use native.Mathlib.Omega.{arith}
 use borrow.Author.Needs.{needs}
 use Prim.Native.Nat.{_-_, _≤_}
 use mathlib.Core.Path.{_≡_, ap}
-use Rattle.plan.specs.Stored.{stored-exprs}
+use Rattle.storage.specs.Stored.{stored-exprs}
 use Rattle.reading.specs.Uses.{all-children}
 use Rattle.reading.proofs.Names.{Onward, start, no-children, and-more, open-names, more-children, close-names}
 use Rattle.reading.proofs.uses.count_children.Statement.{statement}

@@ -2,7 +2,7 @@ use native.Mathlib.Omega.{arith}
 use borrow.Author.Needs.{needs}
 use Prim.Native.Nat.{_-_, _≤_}
 use mathlib.Core.Path.{_≡_, ap}
-use Rattle.plan.specs.Stored.{stored-steps}
+use Rattle.storage.specs.Stored.{stored-steps}
 use Rattle.reading.specs.Uses.{all-both}
 use Rattle.reading.proofs.Names.{Onward, start, no-both, and-more, open-names, more-both, close-names}
 use Rattle.reading.proofs.uses.count_expressions.Statement.{statement}

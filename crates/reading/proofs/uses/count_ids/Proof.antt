@@ -3,7 +3,7 @@ use borrow.Author.Needs.{needs}
 use Prim.Native.Nat.{_-_, _≤_}
 use mathlib.Core.Path.{_≡_, ap}
 use Rattle.plan.specs.Faults.{cache-ids}
-use Rattle.plan.specs.Stored.{stored-steps}
+use Rattle.storage.specs.Stored.{stored-steps}
 use Rattle.reading.proofs.Names.{Onward, start, no-ids, and-more, open-names, more-ids, close-names}
 use Rattle.reading.proofs.uses.count_ids.Statement.{statement}
 use Rattle.reading.proofs.uses.count_ids.Tie as tie

@@ -3,7 +3,7 @@ use borrow.Author.Needs.{needs}
 use Prim.Native.Nat.{_-_, _≤_}
 use mathlib.Core.Path.{_≡_, ap}
 use Rattle.plan.specs.Faults.{named}
-use Rattle.plan.specs.Stored.{stored-steps}
+use Rattle.storage.specs.Stored.{stored-steps}
 use Rattle.reading.proofs.Names.{Onward, start, no-inputs, and-more, open-names, more-inputs, close-names}
 use Rattle.reading.proofs.uses.count_inputs.Statement.{statement}
 use Rattle.reading.proofs.uses.count_inputs.Tie as tie

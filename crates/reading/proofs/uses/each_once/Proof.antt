@@ -4,7 +4,7 @@ use mathlib.Core.List.{List}
 use Prim.Native.Nat.{ℕ, _-_, _≤_}
 use Rattle.plan.specs.Lists.{all?, numbered}
 use borrow.Author.Tests.{eq-eqb, ne-eqb}
-use Rattle.plan.specs.Stored.{stored-expr, stored-exprs}
+use Rattle.storage.specs.Stored.{stored-expr, stored-exprs}
 use Rattle.reading.specs.Uses.{Counted, once-in}
 use Rattle.reading.proofs.Names.{once-is}
 use Rattle.reading.proofs.Scans.{lines-from, line-fails, line-passes, lines-pass}

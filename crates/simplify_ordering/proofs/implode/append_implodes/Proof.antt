@@ -6,9 +6,9 @@ use borrow.Author.Needs.{needs}
 use mathlib.Core.List.{List}
 use lib.ListN.{length}
 use Rattle.plan.specs.Sheet.{Expr, step-at}
-use Rattle.plan.specs.Stored.{arena-of, stored-steps, Steps-held}
+use Rattle.storage.specs.Stored.{arena-of, stored-steps, Steps-held}
 use Rattle.plan.specs.Visit.{implode}
-use Rattle.plan.specs.StoredLaws.{length-steps, length-arena}
+use Rattle.storage.proofs.Laws.{length-steps, length-arena}
 use Rattle.simplify_ordering.specs.Arena.{Arena-held}
 use Rattle.node_rules.specs.Held.{with-agg}
 use Rattle.simplify_ordering.proofs.ImplodesLaws.{Imploding, imploding-none, imploding-more, all-done, same-length, entry-is, room-for-one}

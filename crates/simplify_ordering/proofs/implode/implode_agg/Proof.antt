@@ -1,7 +1,7 @@
 use Rattle.simplify_ordering.proofs.ImplodeLaws.{stays, appended, has-room}
 use Rattle.node_rules.specs.Held.{with-agg}
-use Rattle.plan.specs.Stored.{arena-of, stored-steps}
-use Rattle.plan.specs.StoredLaws.{length-arena}
+use Rattle.storage.specs.Stored.{arena-of, stored-steps}
+use Rattle.storage.proofs.Laws.{length-arena}
 use mathlib.Core.Path.{sym, _∙_, ap}
 use denote.Ref.{now}
 use native.Mathlib.Omega.{arith}

@@ -2,9 +2,9 @@ use Rattle.simplify_ordering.proofs.LookLaws.{start-room, lists-asked, 
 use Rattle.node_rules.specs.Held.{around-of, step-of}
 use Rattle.node_rules.specs.declared.rules.Options.{Options}
 use Rattle.plan.specs.Visit.{allow-deordering-top}
-use Rattle.plan.specs.Stored.{arena-of, stored-steps}
+use Rattle.storage.specs.Stored.{arena-of, stored-steps}
 use Rattle.plan.specs.Sheet.{step-at}
-use Rattle.plan.specs.StoredLaws.{length-steps}
+use Rattle.storage.proofs.Laws.{length-steps}
 use lib.ListN.{length}
 use Prim.Native.Nat.{_<_}
 use mathlib.Core.Path.{_∙_, ap}

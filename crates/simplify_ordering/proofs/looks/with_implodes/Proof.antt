@@ -1,5 +1,5 @@
 use Rattle.simplify_ordering.proofs.LookLaws.{grouped, ungrouped, same-step}
-use Rattle.plan.specs.Stored.{arena-of, stored-steps}
+use Rattle.storage.specs.Stored.{arena-of, stored-steps}
 use Rattle.plan.specs.Sheet.{step-at}
 use Rattle.plan.specs.Kinds.{ir-number}
 use mathlib.Core.Path.{_∙_, ap, refl}

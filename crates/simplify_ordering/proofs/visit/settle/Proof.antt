@@ -1,8 +1,8 @@
 use Rattle.simplify_ordering.proofs.VisitLaws.{listed-of, options-now, merges-now, settle-refused, settle-done}
 use Rattle.simplify_ordering.specs.Run.{run-of}
 use Rattle.node_rules.specs.Held.{around-of, observable-of, held-edges}
-use Rattle.plan.specs.Stored.{arena-of, stored-steps}
-use Rattle.plan.specs.StoredLaws.{length-steps, length-arena}
+use Rattle.storage.specs.Stored.{arena-of, stored-steps}
+use Rattle.storage.proofs.Laws.{length-steps, length-arena}
 use lib.ListN.{length}
 use Prim.Native.Nat.{_<_}
 use mathlib.Core.List.{[]}

@@ -3,7 +3,7 @@ use Rattle.simplify_ordering.specs.Run.{refusal-number}
 use Rattle.node_rules.specs.Held.{around-of, observable-of, step-of, ruled-of, held-edges}
 use Rattle.node_rules.specs.declared.rules.Options.{Options}
 use Rattle.plan.specs.Visit.{Loosened, rule, loosened}
-use Rattle.plan.specs.Stored.{stored-steps}
+use Rattle.storage.specs.Stored.{stored-steps}
 use Rattle.plan.specs.Sheet.{Step, step-at}
 use lib.ListN.{set}
 use mathlib.Core.List.{map}

@@ -1,7 +1,7 @@
 use Rattle.simplify_ordering.proofs.VisitLaws.{tests-read, goes-is, goes-on, goes-away, here-is, edges-held, unlinkable, settle-asked}
 use Rattle.simplify_ordering.specs.Run.{run-of}
 use Rattle.node_rules.specs.Held.{held-edges}
-use Rattle.plan.specs.Stored.{arena-of, stored-steps}
+use Rattle.storage.specs.Stored.{arena-of, stored-steps}
 use lib.Dec.{T}
 use mathlib.Core.List.{[]}
 use mathlib.Core.Path.{sym, _∙_, ap, subst}

@@ -6,7 +6,7 @@ use borrow.Author.Needs.{needs}
 use lib.ListN.{length}
 use Rattle.plan.specs.Lists.{concat-map}
 use Rattle.plan.specs.Text.{edge-line}
-use Rattle.plan.specs.Stored.{table}
+use Rattle.storage.specs.Stored.{table}
 use Rattle.writing.specs.Blocks.{stored-edge, stored-edges}
 use Rattle.writing.specs.Wrote.{Wrote}
 use Rattle.writing.proofs.EdgeLine.{edge-wrote}

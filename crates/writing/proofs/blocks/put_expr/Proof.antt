@@ -2,7 +2,7 @@ use borrow.Author.Needs.{needs}
 use denote.Ref.{now}
 use native.Mathlib.Omega.{arith}
 use Rattle.writing.proofs.Over.{span}
-use Rattle.plan.specs.StoredLaws.{stored-expr-printed}
+use Rattle.storage.proofs.Laws.{stored-expr-printed}
 use Rattle.writing.proofs.blocks.put_expr.Statement.{statement}
 use Rattle.writing.proofs.blocks.put_expr.Tie as tie
 

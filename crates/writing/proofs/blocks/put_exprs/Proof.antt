@@ -6,7 +6,7 @@ use borrow.Author.Needs.{needs}
 use lib.ListN.{length}
 use Rattle.plan.specs.Lists.{concat-map}
 use Rattle.plan.specs.Text.{expr-line}
-use Rattle.plan.specs.Stored.{table, stored-expr, stored-exprs}
+use Rattle.storage.specs.Stored.{table, stored-expr, stored-exprs}
 use Rattle.writing.specs.Wrote.{Wrote}
 use Rattle.writing.proofs.Over.{no-entry, next-entry, all-entries}
 use Rattle.writing.proofs.blocks.put_exprs.Statement.{statement}

@@ -2,7 +2,7 @@ use mathlib.Core.Path.{sym, _∙_}
 use denote.Ref.{now}
 use borrow.Author.Tests.{not-true, not-false}
 use borrow.Author.Needs.{needs}
-use Rattle.plan.specs.Stored.{stored-step}
+use Rattle.storage.specs.Stored.{stored-step}
 use Rattle.ir_graph.proofs.NodeKey.{other-key, cache-key}
 use Rattle.ir_graph.proofs.ir_node_key.IRNodeKey.new.Statement.{statement}
 use Rattle.ir_graph.proofs.ir_node_key.IRNodeKey.new.Tie as tie

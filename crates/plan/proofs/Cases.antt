@@ -9,8 +9,8 @@ use lib.Dec.{T, eqb, eqb→eq}
 use Rattle.plan.specs.Lists.{same, all?}
 use Rattle.plan.specs.Sheet.{Outcome, refused, done}
 use Rattle.plan.specs.Finished.{finished}
-use Rattle.plan.specs.Computing.{computing}
-use Rattle.plan.specs.ListLaws.{same→eq, of-all}
+use Rattle.plan.proofs.Computing.{computing}
+use Rattle.plan.proofs.ListLaws.{same→eq, of-all}
 
 -- the bytes of an ASCII text
 unfoldable pub bytes : String → List ℕ

@@ -8,12 +8,12 @@ use native.Mathlib.Nat.{not-suc-le-zero}
 use native.Mathlib.Decide.{decLt, ℕ-discrete}
 use lib.ListN.{length, getD, take, drop, set, length-set, length-drop}
 use lib.Seq.{ext-getD, getD-set-same, getD-set-other, take-take, drop-drop, getD-take, getD-drop, drop-set-lt, drop-set-add, take-set-le, take-set-lt}
 use Rattle.plan.specs.Kinds.{ir}
 use Rattle.plan.specs.Sheet.{Step, no-step, step-of, step-at}
 use Rattle.plan.specs.Visit.{with-input, with-aggs}
-use Rattle.plan.specs.Stored.{table, stored-step, stored-steps, Step-formed}
-use Rattle.plan.specs.StoredLaws.{length-table, table-at}
-use Rattle.plan.specs.ListLaws.{drop-take}
+use Rattle.storage.specs.Stored.{table, stored-step, stored-steps, Step-formed}
+use Rattle.storage.proofs.Laws.{length-table, table-at}
+use Rattle.plan.proofs.ListLaws.{drop-take}
 
 -- A step reads its own numbers alone ----------------------------------------------------------------------------------------------
 

@@ -7,11 +7,11 @@ use native.Mathlib.Nat.{not-suc-le-zero}
 use mathlib.Core.Bool.{Bool}
 use lib.ListN.{length, getD, take, drop, length-take, length-drop}
 use lib.Seq.{take-add, getD-take, getD-drop}
-use Rattle.plan.specs.KindNumbers.{aexpr-there, ir-there}
+use Rattle.plan.proofs.KindNumbers.{aexpr-there, ir-there}
 use Rattle.plan.specs.Lists.{yes?, digit}
 use Rattle.plan.specs.Sheet.{expr-of, step-of}
 use Rattle.plan.specs.Text.{line, expr-line, step-line}
-use Rattle.plan.specs.Stored.{table, stored-expr, stored-step, stored-exprs, stored-steps, held-expr, arena-of, Expr-formed, Step-formed}
+use Rattle.storage.specs.Stored.{table, stored-expr, stored-step, stored-exprs, stored-steps, held-expr, arena-of, Expr-formed, Step-formed}
 
 -- Tables -------------------------------------------------------------------------------------------------------------------------
 

@@ -10,10 +10,10 @@ use native.Mathlib.Nat.{not-suc-le-zero}
 use native.Mathlib.Decide.{decLt}
 use lib.ListN.{length, getD, take, drop, set, length-set, length-drop}
 use lib.Seq.{take-take, getD-take, getD-drop, getD-set-same, getD-set-other, drop-set-lt, drop-set-add, take-set-le}
 use Rattle.plan.specs.Sheet.{Expr, expr-of}
 use Rattle.plan.specs.Visit.{implode-over}
-use Rattle.plan.specs.StoredLaws.{table-more, same-table}
-use Rattle.plan.specs.Stored.{table, stored-expr, held-expr, arena-of, Expr-formed}
+use Rattle.storage.proofs.Laws.{table-more, same-table}
+use Rattle.storage.specs.Stored.{table, stored-expr, held-expr, arena-of, Expr-formed}
 
 -- A byte of another record ------------------------------------------------------------------------------------------------------------
 
