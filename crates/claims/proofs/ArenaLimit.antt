@@ -11,7 +11,9 @@ use Rattle.plan.specs.declared.ir.IR.{IR}
 use Rattle.plan.specs.Kinds.{same-ir}
 use Rattle.plan.specs.Lists.{if_then_else_, sum}
 use Rattle.plan.specs.Sheet.{Expr, Step, no-step, step-at, expr-at}
-use Rattle.plan.specs.Visit.{Run, Around, Looked, looked-in, looks-of, ruling, with-implodes}
+use Rattle.plan.specs.declared.rules.Options.{Options}
+use Rattle.plan.specs.declared.rules.Around.{Around}
+use Rattle.plan.specs.Visit.{Run, Looked, looked-in, looks-of, options-of, with-options, ruling, ruled-step, with-implodes}
 use Rattle.plan.proofs.ListLaws.{sum-append}
 use Rattle.claims.proofs.Counts.{sum-eq}
 use Rattle.claims.proofs.Sums.{sum-part, sum-set, sum-set-le, sum-beside, mark, below-one}
@@ -19,7 +21,7 @@ use Rattle.claims.proofs.Loads.{load, load-own}
 use Rattle.claims.proofs.Changes.{earlier-of, changed-formed, changed-length, changed-loads}
 use Rattle.claims.proofs.Implodes.{Inside, still-to-append, appended-count}
 use Rattle.claims.proofs.Once.{entries, step-load}
-use Rattle.claims.proofs.Rules.{Ruled, ruled-by}
+use Rattle.claims.proofs.Rules.{After-rule, ruled-by}
 use Rattle.claims.proofs.Scalars.{scalar-at, list-scalar}
 use Rattle.claims.proofs.LooksBounded.{once-started}
 use Rattle.claims.proofs.VisitLooks.{Sound, inside-of-step, inside-of-member, imploded-start, once-start, exprs-spent, aggs-spent, looks-change}
@@ -33,11 +35,12 @@ same-to-append : (es es′ : List Expr) (s : Step) → ((q : ℕ) → List·Mem�
 same-to-append es es′ s h = ap (λ n. if same-ir (s .kind) IR.GroupBy then n else 0) (sum-eq _ _ (s .aggs) (λ q m. ap {B = ℕ} (λ b. if b then 0 else 1) (h q m)))
 
 -- a rule brings no new aggs
-rule-leaves : (es : List Expr) (s s′ : Step) → Ruled s s′ → still-to-append es s′ ≤ still-to-append es s
-rule-leaves es s s′ k =
-    elim (k .lists) [
-      | inl (_, j, i) ↦ rw (i, j) (le-refl _)
-      | inr (_, j, i) ↦ rw i (omega arith)
+rule-leaves : (es : List Expr) (s : Step) (o : Options) → After-rule (options-of s) o
+    → still-to-append es (with-options o s) ≤ still-to-append es s
+rule-leaves es s o k =
+    elim (k .kind) [
+      | inl i ↦ rw i (le-refl _)
+      | inr i ↦ rw i (omega arith)
     ]
 
 module _ (r : Run) (sound : Sound r) (n : ℕ) where
@@ -99,20 +102,20 @@ module _ (r : Run) (sound : Sound r) (n : ℕ) where
       let s = step-at (r .steps) n in
       appended-count s (r .arena) (sound .formed) (λ q m. inside-of-step r sound n q (Memᴰ·append-right (s .exprs) m))
 
-  pub room-settled : length (l .end .expr-arena) + sum (still-to-append (l .end .expr-arena)) (set (r .steps) n (ruling n r .0))
+  pub room-settled : length (l .end .expr-arena) + sum (still-to-append (l .end .expr-arena)) (set (r .steps) n (ruled-step n r))
       ≤ length (r .arena) + sum (still-to-append (r .arena)) (r .steps)
   unfolding ruling
   room-settled =
       let es = r .arena in
       let end = l .end .expr-arena in
-      let s′ = ruling n r .0 in
+      let s′ = ruled-step n r in
       let i = imploded-start r sound n in
       let old : (x : Step) → Inside (entries x) es → still-to-append es′ x ≡ still-to-append es x =
       λ x inside. same-to-append es es′ x (λ q m. ap (λ (y : Expr). y .scalar) (i .old q (inside q (Memᴰ·append-right (x .exprs) m)))) in
       omega (
         arith,
         sum-set-le (still-to-append end) (r .steps) n s′ (l .step)
-            (rule-leaves end (l .step) s′ (ruled-by n r)),
+            (rule-leaves end (l .step) _ (ruled-by n r)),
         sum-eq (still-to-append end) (still-to-append es′) (set (r .steps) n (l .step)) looks-leave,
         sum-set (still-to-append es′) (r .steps) no-step n (l .step),
         sum-eq (still-to-append es′) (still-to-append es) (r .steps) (λ x m. old x (inside-of-member r sound x m)),

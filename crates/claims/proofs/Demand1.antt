@@ -16,7 +16,7 @@ use Rattle.plan.specs.Lists.{if_then_else_, sum, times, empty?}
 use Rattle.plan.specs.Sheet.{Step, no-step, step-at, in-step-table, Sheet, Outcome, refused, done, _then_, refuse_when_else_, Line, E, P, line-of, read-line, read-lines, no-lines, too-long, no-plan, parts, read}
 use Rattle.plan.specs.Faults.{named, checked, references-right, uses-right, fields-right}
 use Rattle.plan.specs.Graph.{graph, sinks}
-use Rattle.plan.specs.Visit.{Run, simplify-ir-node-orders, goes, unlink-node, one-visit, settle, settled, refusal-in, looked-in, join-fails, sink-fails}
+use Rattle.plan.specs.Visit.{Run, simplify-ir-node-orders, goes, unlink-node, one-visit, settle, settled, refusal-in, looked-in, options-of, join-fails, sink-fails}
 use Rattle.plan.specs.Walks.{walk, begin, down, up, simplify-and-fetch-orderings}
 use Rattle.plan.specs.Text.{printed}
 use Rattle.plan.specs.Finished.{run, finished, Called, finish, called, too-short}
@@ -81,7 +81,7 @@ visit-within n r = by (goes n r)
 
     by : (b : Bool) → Within 10 11 (if b then done (unlink-node n (one-visit r)) else settle n (one-visit r))
     by true = tt
-    by false = on (join-fails (l .step) (l .observable)) (sink-fails (l .step) (l .observable))
+    by false = on (join-fails (options-of (l .step)) (l .observable)) (sink-fails (options-of (l .step)) (l .observable))
 
 walk-within : (ns : List ℕ) (r : Run) → Within 10 11 (walk ns r)
 unfolding walk

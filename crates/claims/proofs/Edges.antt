@@ -13,7 +13,8 @@ use lib.ListN.{length, getD, List·getD-eq-default}
 use Rattle.plan.specs.Lists.{if_then_else_, select, sum}
 use Rattle.plan.specs.Sheet.{done, step-at}
 use Rattle.plan.specs.Graph.{Edge}
-use Rattle.plan.specs.Visit.{Run, Loosened, simplify-ir-node-orders, unlink-node, one-visit, settled, ruling, loosened, relinked, is-into, is-out-of, no-edge, out-edge}
+use Rattle.plan.specs.declared.rules.Loosened.{Loosened}
+use Rattle.plan.specs.Visit.{Run, simplify-ir-node-orders, unlink-node, one-visit, settled, ruling, loosened, relinked, is-into, is-out-of, no-edge, out-edge}
 use Rattle.plan.specs.Walks.{walk}
 use Rattle.claims.specs.Demand3.{leaving-among, Unordered-at}
 use Rattle.claims.proofs.Walks.{two-ways, walk-keeps}
@@ -116,7 +117,7 @@ unfolding unlink-node settled
 visit-edge Q n r e k h f g =
     elim (two-ways n r e) [
       | inl w ↦ subst (λ (q : Run). Q (edge-at k q)) (sym (w .1)) (rw at-map (f (getD (step-at (r .steps) n .inputs) 0 0)))
-      | inr w ↦ subst (λ (q : Run). Q (edge-at k q)) (sym (w .1)) (rw at-map (g (ruling n (one-visit r) .1)))
+      | inr w ↦ subst (λ (q : Run). Q (edge-at k q)) (sym (w .1)) (rw at-map (g (ruling n (one-visit r) .loosened)))
     ]
 
 -- n is neither end of d
@@ -138,7 +139,7 @@ visit-apart n r e k h a =
     same : (l : Loosened) → loosened n l (edge-at k r) ≡ edge-at k r
     same l =
         let d = edge-at k r in
-        let u : loosened n l d .unordered ≡ d .unordered = rw (a .into, a .out) (or-nothing (d .unordered) (if eqb (d .slot) 0 then l .in₀ else l .in₁) (l .out)) in
+        let u : loosened n l d .unordered ≡ d .unordered = rw (a .into, a .out) (or-nothing (d .unordered) (if eqb (d .slot) 0 then l .in0 else l .later) (l .out)) in
         λ i. record { consumer = d .consumer; slot = d .slot; producer = d .producer; unordered = u i }
 
 -- An unordered edge stays unordered -------------------------------------------------------------------------------------------------
@@ -156,7 +157,7 @@ visit-looser n r r′ e k t =
     let d = edge-at k r in
     visit-edge (λ (x : Edge). T (x .unordered)) n r e k (unordered-there k r t)
     (λ input. three-ways n input (λ (x : Edge). T (x .unordered)) d (λ u. tt) (λ i u. t) (λ i j. t))
-    (λ l. or-left (d .unordered) (is-into n d && (if eqb (d .slot) 0 then l .in₀ else l .in₁)) (is-out-of n d && l .out) t)
+    (λ l. or-left (d .unordered) (is-into n d && (if eqb (d .slot) 0 then l .in0 else l .later)) (is-out-of n d && l .out) t)
   where
     or-left : (a b c : Bool) → T a → T (a || b || c)
     or-left true b c t = tt

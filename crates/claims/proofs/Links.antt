@@ -14,7 +14,7 @@ use Rattle.plan.specs.declared.ir.IR.{IR}
 use Rattle.plan.specs.Lists.{if_then_else_, sum, times}
 use Rattle.plan.specs.Sheet.{Step, done, no-step, step-at}
 use Rattle.plan.specs.Graph.{Edge}
-use Rattle.plan.specs.Visit.{Run, simplify-ir-node-orders, goes, unlink-node, one-visit, settled, ruling, loosened, relinked, is-into, is-out-of, no-edge, with-input, out-edge}
+use Rattle.plan.specs.Visit.{Run, simplify-ir-node-orders, goes, unlink-node, one-visit, settled, ruling, ruled-step, loosened, relinked, is-into, is-out-of, no-edge, with-input, out-edge}
 use Rattle.claims.specs.Demand3.{leaving}
 use Rattle.claims.proofs.Booleans.{differ, equal}
 use Rattle.claims.proofs.Counts.{true-of, T-of, not-both, of-map, mem-at, some-counted, only-one, count-map, count-same, count-none, count-balance, times-same, times-other, times-of}
@@ -114,7 +114,7 @@ module _ (ps : List Step) (n : ℕ) (rest : List ℕ) (r : Run) (g : Linked ps (
   -- A visit that settles --------------------------------------------------------------------------------------------------
 
   abbrev looser : Edge → Edge
-  looser = loosened n (ruling n (one-visit r) .1)
+  looser = loosened n (ruling n (one-visit r) .loosened)
 
   module _ (w : goes n r ≡ false) (e : simplify-ir-node-orders n r ≡ done (settled n (one-visit r))) where
     held-now : T (unsliced-sort (step-at ps n)) → Held n rest (map looser (r .edges))
@@ -151,7 +151,7 @@ module _ (ps : List Step) (n : ℕ) (rest : List ℕ) (r : Run) (g : Linked ps (
     settled-linked : Linked ps rest (settled n (one-visit r))
     unfolding settled sum
     settled-linked = record {
-      sorts = λ k. sorts-kept (r .steps) n (ruling n (one-visit r) .0) (ruling-sort n (one-visit r)) k ∙ g .sorts k;
+      sorts = λ k. sorts-kept (r .steps) n (ruled-step n (one-visit r)) (ruling-sort n (one-visit r)) k ∙ g .sorts k;
       once = λ k t. omega (arith, g .once k t);
       leaves = λ k t. omega (arith, g .leaves k t, count-map (is-out-of k) looser (r .edges));
       enters =

@@ -9,7 +9,7 @@ use lib.ListN.{length, set}
 use Rattle.plan.specs.Lists.{sum}
 use Rattle.plan.specs.Sheet.{Expr, Step, Sheet, done, no-step, step-at}
 use Rattle.plan.specs.Graph.{graph}
-use Rattle.plan.specs.Visit.{Run, simplify-ir-node-orders, unlink-node, one-visit, settled, looked-in, ruling, out-edge}
+use Rattle.plan.specs.Visit.{Run, simplify-ir-node-orders, unlink-node, one-visit, settled, looked-in, ruling, ruled-step, out-edge}
 use Rattle.plan.specs.Walks.{begin, down}
 use Rattle.claims.specs.WellFormed.{Accepted, WellFormed}
 use Rattle.claims.specs.Demand3.{Down, Up, Looks-bounded}
@@ -21,17 +21,7 @@ use Rattle.claims.proofs.Loads.{load}
 use Rattle.claims.proofs.Changes.{changed-formed, changed-length, changed-loads}
 use Rattle.claims.proofs.Implodes.{Inside, old-loads}
 use Rattle.claims.proofs.Once.{entries, step-load, Once, formed-at-start, once-at-start}
-use Rattle.claims.proofs.Rules.{Ruled, ruled-by}
 use Rattle.claims.proofs.VisitLooks.{Sound, no-load, inside-of-step, inside-of-member, imploded-start, loads-start, looks-change, looks-bounded-in}
-
--- a rule's step weighs no more
-rule-load : (w : ℕ → ℕ) (es : List Expr) (s s′ : Step) → Ruled s s′ → step-load w es s′ ≤ step-load w es s
-unfolding sum
-rule-load w es s s′ k =
-    elim (k .lists) [
-      | inl (i, j, _) ↦ rw (i, j) (le-refl _)
-      | inr (i, j, _) ↦ rw (i, j) (omega arith)
-    ]
 
 module _ (r : Run) (sound : Sound r) where
   -- another step at n, with no more entries than the one there
@@ -64,19 +54,19 @@ module _ (r : Run) (sound : Sound r) where
         sound .once w,
       )
 
-  once-settled : (n : ℕ) → Once (looked-in n r .end .expr-arena) (set (r .steps) n (ruling n r .0))
+  once-settled : (n : ℕ) → Once (looked-in n r .end .expr-arena) (set (r .steps) n (ruled-step n r))
   unfolding ruling
   once-settled n w =
       let l = looked-in n r in
       let es′ = l .start .expr-arena in
-      let s′ = ruling n r .0 in
+      let s′ = ruled-step n r in
       let c = looks-change r sound n in
       omega (
         arith,
         sum-le (step-load w (l .end .expr-arena)) (step-load w es′) (set (r .steps) n s′)
             (λ x _. changed-loads c (imploded-start r sound n .formed) w (entries x)),
         sum-set-le (step-load w es′) (r .steps) n s′ (l .step)
-            (rule-load w es′ (l .step) s′ (ruled-by n r)),
+            (le-refl _),
         once-started n w,
         ap (sum-below w) (changed-length c),
       )

@@ -12,11 +12,12 @@ use Rattle.plan.specs.Kinds.{same-ir}
 use Rattle.plan.specs.Lists.{if_then_else_}
 use Rattle.plan.specs.Sheet.{Expr, Step, done, no-expr, no-step, expr-at, step-at}
 use Rattle.plan.specs.Graph.{Edge}
-use Rattle.plan.specs.Visit.{Run, implode, implode-over, imploded, with-implodes, looks-of, looked-in, ruling, out-edge, no-edge, is-into, is-out-of, relinked, with-input, unlink-node, one-visit, settled, simplify-ir-node-orders}
+use Rattle.plan.specs.declared.rules.Options.{Options}
+use Rattle.plan.specs.Visit.{Run, implode, implode-over, imploded, with-implodes, looks-of, looked-in, options-of, with-options, ruling, out-edge, no-edge, is-into, is-out-of, relinked, with-input, unlink-node, one-visit, settled, simplify-ir-node-orders}
 use Rattle.claims.proofs.Walks.{two-ways}
 use Rattle.claims.proofs.Every.{Every, every-set, every-append, every-map}
 use Rattle.claims.proofs.Changes.{Changes, no-change, takes-input, goes-off}
-use Rattle.claims.proofs.Rules.{Small, Ruled, ruled-by}
+use Rattle.claims.proofs.Rules.{Small, After-rule, ruled-by}
 use Rattle.claims.proofs.VisitLooks.{Sound, looks-change}
 
 -- Records ----------------------------------------------------------------------------------------------------------------------
@@ -64,7 +65,7 @@ slim-started s es = by (same-ir (s .kind) IR.GroupBy)
 -- Steps ------------------------------------------------------------------------------------------------------------------------
 
 pub record Plain (s : Step) : Type 0 where
-  pub small : Small s
+  pub small : Small (options-of s)
   pub few-inputs : length (s .inputs) ≤ 8
   pub few-exprs : length (s .exprs) ≤ 8
   pub few-aggs : length (s .aggs) ≤ 8
@@ -73,19 +74,15 @@ pub record Plain (s : Step) : Type 0 where
 abbrev pub All-plain : List Step → Type 0
 All-plain = Every Plain no-step
 
-plain-ruled : (s s′ : Step) → Ruled s s′ → Plain s → Plain s′
-plain-ruled s s′ k p =
-    let lists : (length (s′ .exprs) ≤ 8) × (length (s′ .aggs) ≤ 8) =
-    elim (k .lists) [
-      | inl (i, j, _) ↦ (rw i (p .few-exprs), rw j (p .few-aggs))
-      | inr (i, j, _) ↦ (rw i (omega arith), rw j (omega arith))
-    ] in
+plain-ruled : (s : Step) (o : Options) → After-rule (options-of s) o → Plain s → Plain (with-options o s)
+plain-ruled s o k p =
+    let small = k .small (p .small) in
     record {
-      small = k .small (p .small);
-      few-inputs = rw (k .inputs) (p .few-inputs);
-      few-exprs = lists .0;
-      few-aggs = lists .1;
-      inputs = rw (k .inputs) (p .inputs);
+      small = record { a = small .a; b = small .b; c = small .c };
+      few-inputs = p .few-inputs;
+      few-exprs = p .few-exprs;
+      few-aggs = p .few-aggs;
+      inputs = p .inputs;
     }
 
 plain-with-input : (k input : ℕ) (s : Step) → input < 32 → Plain s → Plain (with-input k input s)

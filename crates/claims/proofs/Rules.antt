@@ -1,50 +1,42 @@
--- What a rule leaves of a step: its inputs, and its lists unless it becomes a Union.
+-- What a rule leaves of a step's options: the kind, unless it becomes a Union, and that each fits a byte.
 use mathlib.Core.Path.{_≡_, refl}
 use mathlib.Core.Logic.{_⊎_, inl, inr}
 use Prim.Native.Nat.{ℕ, _≤_}
 use native.Mathlib.Omega.{arith}
 use mathlib.Core.Bool.{Bool, true, false, _||_}
-use mathlib.Core.List.{[]}
 use Rattle.plan.specs.declared.ir.IR.{IR}
 use Rattle.plan.specs.declared.distinct.UniqueKeepStrategy.{UniqueKeepStrategy}
 use Rattle.plan.specs.declared.join.JoinType.{JoinType}
 use Rattle.plan.specs.declared.join.MaintainOrderJoin.{MaintainOrderJoin}
+use Rattle.plan.specs.declared.rules.Options.{Options}
+use Rattle.plan.specs.declared.rules.Around.{Around}
+use Rattle.plan.specs.declared.rules.Observable.{Observable}
+use Rattle.plan.specs.declared.rules.Ruled.{Ruled}
 use Rattle.plan.specs.Kinds.{keep-strategy-number, maintain-order-number, join-type, same-join-type}
 use Rattle.plan.specs.Lists.{if_then_else_}
-use Rattle.plan.specs.Sheet.{Step}
-use Rattle.plan.specs.Visit.{Run, looked-in, ruling, around, Around, Observable, Loosened, rule, with-options, unordered-union, merge-sorted-all, kept-by-rhs, distinct-out, distinct-in, distinct-keeps, sink-in, sort-in, group-by-out, union-all}
+use Rattle.plan.specs.Visit.{Run, looked-in, ruling, around, arm, options-of, unmaintained-if, unordered-union, merge-sorted-all, kept-by-rhs, distinct-out, distinct-in, distinct-keeps, sink-in, sort-in, group-by-out, union-all}
 
-abbrev pub Same-lists : Step → Step → Type 0
-Same-lists s s′ = (s′ .exprs ≡ s .exprs) × (s′ .aggs ≡ s .aggs) × (s′ .kind ≡ s .kind)
-
-abbrev pub Empty-union : Step → Type 0
-Empty-union s′ = (s′ .exprs ≡ []) × (s′ .aggs ≡ []) × (s′ .kind ≡ IR.Union)
-
--- the options of a step, as they are printed
-pub record Small (s : Step) : Type 0 where
+-- the options as they are printed
+pub record Small (s : Options) : Type 0 where
   pub a : s .a ≤ 255
   pub b : s .b ≤ 255
   pub c : s .c ≤ 255
 
-pub record Ruled (s s′ : Step) : Type 0 where
-  pub inputs : s′ .inputs ≡ s .inputs
-  pub lists : Same-lists s s′ ⊎ Empty-union s′
+pub record After-rule (s s′ : Options) : Type 0 where
+  pub kind : (s′ .kind ≡ s .kind) ⊎ (s′ .kind ≡ IR.Union)
   pub small : Small s → Small s′
 
-module _ (s : Step) where
-  itself : Ruled s s
-  itself = record { inputs = refl; lists = inl (refl, refl, refl); small = λ k. k }
-
-  with-others : (a b c : ℕ) → (Small s → Small (with-options a b c s)) → Ruled s (with-options a b c s)
-  with-others a b c f = record { inputs = refl; lists = inl (refl, refl, refl); small = f }
+module _ (s : Options) where
+  itself : After-rule s s
+  itself = record { kind = inl refl; small = λ k. k }
 
   less : (l : Bool) → Small s → (if l then 0 else s .a) ≤ 255
   less true k = omega arith
   less false k = k .a
 
   -- maintain_order off, or not
-  off : (l : Bool) → Ruled s (with-options (if l then 0 else s .a) (s .b) (s .c) s)
-  off l = with-others _ _ _ (λ k. record { a = less l k; b = k .b; c = k .c })
+  off : (l : Bool) → After-rule s (unmaintained-if l s)
+  off l = record { kind = inl refl; small = λ k. record { a = less l k; b = k .b; c = k .c } }
 
 strategy-small : (u : UniqueKeepStrategy) → keep-strategy-number u ≤ 255
 strategy-small UniqueKeepStrategy.First = omega arith
@@ -59,41 +51,47 @@ maintain-small MaintainOrderJoin.Right = omega arith
 maintain-small MaintainOrderJoin.LeftRight = omega arith
 maintain-small MaintainOrderJoin.RightLeft = omega arith
 
-module _ (s : Step) (e : Around) (o : Observable) where
-  either : (b : Bool) (x y : Step × Loosened) → Ruled s (x .0) → Ruled s (y .0) → Ruled s ((if b then x else y) .0)
+module _ (s : Options) (e : Around) (o : Observable) where
+  either : (b : Bool) (x y : Ruled) → After-rule s (x .options) → After-rule s (y .options) → After-rule s ((if b then x else y) .options)
   either true x y f g = f
   either false x y f g = g
 
-  merged : (b : Bool) → Ruled s (if b then unordered-union s e o else s)
-  merged true =
-      record { inputs = refl; lists = inr (refl, refl, refl); small = λ k. record { a = omega arith; b = omega arith; c = omega arith } }
+  merged : (b : Bool) → After-rule s (if b then unordered-union s e o else s)
+  merged true = record { kind = inr refl; small = λ k. record { a = omega arith; b = omega arith; c = omega arith } }
   merged false = itself s
 
-  ruled : (k : IR) → Ruled s (rule s e o k .0)
-  unfolding rule
-  ruled IR.Scan = itself s
-  ruled IR.UnoptimizedDispatch = itself s
-  ruled IR.Sink = off s (sink-in s e o)
-  ruled IR.Select = itself s
-  ruled IR.HStack = itself s
-  ruled IR.Sort = off s (sort-in s e o)
-  ruled IR.Filter = itself s
-  ruled IR.GroupBy = off s (group-by-out s e o)
-  ruled IR.Distinct = with-others s _ _ _ (λ k. record { a = less s (distinct-out s e o || distinct-in s e o) k; b = k .b; c = strategy-small (distinct-keeps s e o) })
-  ruled IR.Join =
+  after : (k : IR) → After-rule s (arm s e o k .options)
+  unfolding arm
+  after IR.Scan = itself s
+  after IR.UnoptimizedDispatch = itself s
+  after IR.Sink = off s (sink-in s e o)
+  after IR.Select = itself s
+  after IR.HStack = itself s
+  after IR.Sort = off s (sort-in s e o)
+  after IR.Filter = itself s
+  after IR.GroupBy = off s (group-by-out s e o)
+  after IR.Distinct =
+      record {
+        kind = inl refl;
+        small =
+            λ k. record { a = less s (distinct-out s e o || distinct-in s e o) k; b = k .b; c = strategy-small (distinct-keeps s e o) };
+      }
+  after IR.Join =
       either (same-join-type (join-type (s .a)) JoinType.AsOf) _ _ (itself s)
-      (with-others s _ _ _ (λ k. record { a = k .a; b = maintain-small (kept-by-rhs s e o); c = k .c }))
-  ruled IR.Gather = itself s
-  ruled IR.Union = off s (union-all s e o)
-  ruled IR.MergeSorted = merged (merge-sorted-all s e o)
-  ruled IR.MapFunction = itself s
-  ruled IR.HConcat = itself s
-  ruled IR.Slice = itself s
-  ruled IR.ExtContext = itself s
-  ruled IR.SimpleProjection = itself s
-  ruled IR.Cache = itself s
+      (record { kind = inl refl; small = λ k. record { a = k .a; b = maintain-small (kept-by-rhs s e o); c = k .c } })
+  after IR.Gather = itself s
+  after IR.Union = off s (union-all s e o)
+  after IR.MergeSorted = merged (merge-sorted-all s e o)
+  after IR.MapFunction = itself s
+  after IR.HConcat = itself s
+  after IR.Slice = itself s
+  after IR.ExtContext = itself s
+  after IR.SimpleProjection = itself s
+  after IR.Cache = itself s
 
 -- the rule of a visit
-pub ruled-by : (n : ℕ) (r : Run) → Ruled (looked-in n r .step) (ruling n r .0)
+pub ruled-by : (n : ℕ) (r : Run) → After-rule (options-of (looked-in n r .step)) (ruling n r .options)
 unfolding ruling
-ruled-by n r = let l = looked-in n r in ruled (l .step) (around n (r .edges)) (l .observable) (l .step .kind)
+ruled-by n r =
+    let l = looked-in n r in
+    after (options-of (l .step)) (around n (r .edges)) (l .observable) (l .step .kind)

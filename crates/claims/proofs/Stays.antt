@@ -15,7 +15,11 @@ use Rattle.plan.specs.declared.join.JoinType.{JoinType}
 use Rattle.plan.specs.Lists.{if_then_else_, yes?}
 use Rattle.plan.specs.Sheet.{Step, done, no-step, step-at}
 use Rattle.plan.specs.Graph.{Edge}
-use Rattle.plan.specs.Visit.{Run, Around, Observable, Loosened, rule, unordered-union, merge-sorted-all, simplify-ir-node-orders, goes, ruling, looked-in, looks-of, is-out-of, no-edge, out-edge}
+use Rattle.plan.specs.declared.rules.Options.{Options}
+use Rattle.plan.specs.declared.rules.Around.{Around}
+use Rattle.plan.specs.declared.rules.Observable.{Observable}
+use Rattle.plan.specs.declared.rules.Ruled.{Ruled}
+use Rattle.plan.specs.Visit.{Run, arm, rule, unordered-union, merge-sorted-all, simplify-ir-node-orders, goes, ruling, ruled-step, looked-in, looks-of, is-out-of, no-edge, out-edge}
 use Rattle.plan.proofs.ListLaws.{and-left}
 use Rattle.claims.proofs.StepTable.{same-kind}
 use Rattle.claims.proofs.Visits.{visited}
@@ -29,12 +33,15 @@ sort-kind s t = same-kind (s .kind) IR.Sort (and-left (same-ir (s .kind) IR.Sort
 
 -- A visit makes no sort and takes no slice off ----------------------------------------------------------------------------------------
 
-module _ (s : Step) (e : Around) (o : Observable) where
-  neither-sort : (t : Step) → same-ir (s .kind) IR.Sort ≡ false → same-ir (t .kind) IR.Sort ≡ false → unsliced-sort t ≡ unsliced-sort s
+abbrev unsliced : Options → Bool
+unsliced s = same-ir (s .kind) IR.Sort && not (yes? (s .b))
+
+module _ (s : Options) (e : Around) (o : Observable) where
+  neither-sort : (t : Options) → same-ir (s .kind) IR.Sort ≡ false → same-ir (t .kind) IR.Sort ≡ false → unsliced t ≡ unsliced s
   neither-sort t f g = rw (f, g)
 
-  rule-sort : (k : IR) → k ≡ s .kind → unsliced-sort (rule s e o k .0) ≡ unsliced-sort s
-  unfolding rule
+  rule-sort : (k : IR) → k ≡ s .kind → unsliced (arm s e o k .options) ≡ unsliced s
+  unfolding arm
   rule-sort IR.Scan i = refl
   rule-sort IR.UnoptimizedDispatch i = refl
   rule-sort IR.Sink i = refl
@@ -49,14 +56,14 @@ module _ (s : Step) (e : Around) (o : Observable) where
       none : same-ir (s .kind) IR.Sort ≡ false
       none = ap (λ (k : IR). same-ir k IR.Sort) (sym i)
 
-      by : (b : Bool) (x y : Step × Loosened) → x .0 .kind ≡ s .kind → y .0 .kind ≡ s .kind → unsliced-sort ((if b then x else y) .0) ≡ unsliced-sort s
-      by true x y f g = neither-sort (x .0) none (rw f none)
-      by false x y f g = neither-sort (y .0) none (rw g none)
+      by : (b : Bool) (x y : Ruled) → x .options .kind ≡ s .kind → y .options .kind ≡ s .kind → unsliced ((if b then x else y) .options) ≡ unsliced s
+      by true x y f g = neither-sort (x .options) none (rw f none)
+      by false x y f g = neither-sort (y .options) none (rw g none)
   rule-sort IR.Gather i = refl
   rule-sort IR.Union i = refl
   rule-sort IR.MergeSorted i = by (merge-sorted-all s e o)
     where
-      by : (b : Bool) → unsliced-sort (if b then unordered-union s e o else s) ≡ unsliced-sort s
+      by : (b : Bool) → unsliced (if b then unordered-union s e o else s) ≡ unsliced s
       by true = neither-sort (unordered-union s e o) (ap (λ (k : IR). same-ir k IR.Sort) (sym i)) refl
       by false = refl
   rule-sort IR.MapFunction i = refl
@@ -67,17 +74,17 @@ module _ (s : Step) (e : Around) (o : Observable) where
   rule-sort IR.Cache i = refl
 
   -- a sort's rule loosens nothing that leaves it
-  rule-holds-out : s .kind ≡ IR.Sort → rule s e o (s .kind) .1 .out ≡ false
-  unfolding rule
-  rule-holds-out i = ap (λ (k : IR). rule s e o k .1 .out) i
+  rule-holds-out : s .kind ≡ IR.Sort → rule s e o .loosened .out ≡ false
+  unfolding arm
+  rule-holds-out i = ap (λ (k : IR). arm s e o k .loosened .out) i
 
-pub ruling-sort : (n : ℕ) (r : Run) → unsliced-sort (ruling n r .0) ≡ unsliced-sort (step-at (r .steps) n)
+pub ruling-sort : (n : ℕ) (r : Run) → unsliced-sort (ruled-step n r) ≡ unsliced-sort (step-at (r .steps) n)
 unfolding ruling looked-in looks-of
-ruling-sort n r = rule-sort (looked-in n r .step) _ (looked-in n r .observable) _ refl
+ruling-sort n r = rule-sort _ _ (looked-in n r .observable) _ refl
 
-pub sort-holds-out : (n : ℕ) (r : Run) → step-at (r .steps) n .kind ≡ IR.Sort → ruling n r .1 .out ≡ false
+pub sort-holds-out : (n : ℕ) (r : Run) → step-at (r .steps) n .kind ≡ IR.Sort → ruling n r .loosened .out ≡ false
 unfolding ruling looked-in looks-of
-sort-holds-out n r i = rule-holds-out (looked-in n r .step) _ (looked-in n r .observable) i
+sort-holds-out n r i = rule-holds-out _ _ (looked-in n r .observable) i
 
 -- another step at c, of which f reads what it read of the one before
 pub reads-kept : {A : Type 0} (f : Step → A) (ps : List Step) (c : ℕ) (s : Step) → f s ≡ f (step-at ps c)

@@ -152,16 +152,6 @@ unfolding in-step-table
 own-step-row s t =
     in-step-row s (step-row-of (ir-number (s .kind))) (not (same-ir (s .kind) IR.Sink && eqb (s .b) 0) || eqb (length (s .exprs)) 0) t
 
--- a MergeSorted's leaves it no entries
-pub merge-has-no-entries : (s : Step) → s .kind ≡ IR.MergeSorted → T (in-step-table s) → (s .exprs ≡ []) × (s .aggs ≡ [])
-unfolding step-table
-merge-has-no-entries s e t =
-    let k = own-step-row s t in
-    let row = ap (λ (k : IR). step-row-of (ir-number k)) e in (
-      drop-of-length-le (s .exprs) {i = 0} (omega (arith, k .exprs, ap (λ (x : Step-row). x .6) row)),
-      drop-of-length-le (s .aggs) {i = 0} (omega (arith, k .aggs, ap (λ (x : Step-row). x .7) row)),
-    )
-
 -- what every row says
 pub record In-step-table (s : Step) : Type 0 where
   pub a : s .a ≤ 255

@@ -9,7 +9,7 @@ use lib.ListN.{length}
 use Rattle.plan.specs.Lists.{sum}
 use Rattle.plan.specs.Sheet.{Expr, Step, no-step, step-at}
 use Rattle.plan.specs.Look.{Eos, simplify-projected-exprs}
-use Rattle.plan.specs.Visit.{Run, Looked, looked-in, looks-of, around, allow-deordering-top}
+use Rattle.plan.specs.Visit.{Run, Looked, looked-in, looks-of, around, options-of, allow-deordering-top}
 use Rattle.plan.proofs.ListLaws.{sum-append}
 use Rattle.claims.specs.Demand3.{List-bounded, Looks-bounded}
 use Rattle.claims.proofs.Sums.{sum-part, sum-at, sum-below, below-one, below-if-counted, mark}
@@ -101,7 +101,7 @@ module _ (r : Run) (sound : Sound r) (n : ℕ) where
 
   pub exprs-spent : List-spent (l .step .exprs) (l .start) (l .between)
   unfolding looked-in looks-of
-  exprs-spent = list-spent (s .exprs) (allow-deordering-top s (around n (r .edges))) (l .start) (imploded-start .formed)
+  exprs-spent = list-spent (s .exprs) (allow-deordering-top (options-of s) (around n (r .edges))) (l .start) (imploded-start .formed)
 
   formed-between : Formed (l .between .expr-arena)
   formed-between = changed-formed (exprs-spent .goes .changes) (imploded-start .formed)
@@ -132,6 +132,6 @@ module _ (r : Run) (sound : Sound r) (n : ℕ) where
   unfolding looked-in looks-of allow-deordering-top
   looks-bounded-in =
       record {
-        exprs = list-bounded (s .exprs) (allow-deordering-top s (around n (r .edges))) (l .start) (imploded-start .formed) once-exprs;
+        exprs = list-bounded (s .exprs) (allow-deordering-top (options-of s) (around n (r .edges))) (l .start) (imploded-start .formed) once-exprs;
         aggs = list-bounded (l .step .aggs) false (l .between) formed-between once-aggs;
       }

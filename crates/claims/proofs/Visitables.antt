@@ -13,7 +13,7 @@ use Rattle.plan.specs.Lists.{if_then_else_, times}
 use Rattle.plan.specs.Sheet.{Expr, Step, Sheet, done, no-step, step-at, in-step-table}
 use Rattle.plan.specs.Faults.{named}
 use Rattle.plan.specs.Graph.{Edge, graph, sinks}
-use Rattle.plan.specs.Visit.{Run, simplify-ir-node-orders, unlink-node, one-visit, settled, looked-in, looks-of, ruling, imploded, with-implodes, with-input, no-edge, out-edge}
+use Rattle.plan.specs.Visit.{Run, simplify-ir-node-orders, unlink-node, one-visit, settled, looked-in, looks-of, ruled-step, with-input, no-edge, out-edge}
 use Rattle.plan.specs.Walks.{begin, down}
 use Rattle.claims.specs.WellFormed.{WellFormed}
 use Rattle.claims.specs.Visitable.{Visitable}
@@ -22,14 +22,12 @@ use Rattle.claims.proofs.Booleans.{all-at}
 use Rattle.claims.proofs.Counts.{mem-at, mem-concat, only, times-of, stands-in}
 use Rattle.claims.proofs.Every.{Every, every-of, every-set}
 use Rattle.claims.proofs.StepTable.{has-inputs}
-use Rattle.claims.proofs.Tables.{merge-has-no-entries}
 use Rattle.claims.proofs.Plans.{Plan, root-there, input-there, plan-of}
 use Rattle.claims.proofs.Places.{graph-ordered}
 use Rattle.claims.proofs.Edges.{edge-at, three-ways, visit-edge}
 use Rattle.claims.proofs.Stays.{unsliced-sort, sort-kind, ruling-sort, reads-kept, goes-sort}
 use Rattle.claims.proofs.Removals.{removes}
 use Rattle.claims.proofs.Sizes.{few-places, steps-kept, edges-kept}
-use Rattle.claims.proofs.Rules.{ruled-by}
 use Rattle.claims.proofs.VisitLooks.{inside-of-step, imploded-start, looks-bounded-in}
 use Rattle.claims.proofs.RunLimits.{Within, end-length, end-within, visit-limits, within-visit, within-begin, within-half}
 use Rattle.claims.proofs.Printable.{Printable, printable-visit}
@@ -37,39 +35,17 @@ use Rattle.claims.proofs.PrintableStart.{printable-begin}
 
 -- Steps ------------------------------------------------------------------------------------------------------------------------
 
--- of a step: a sort without slice has an input, and a MergeSorted no expressions
+-- of a step: a sort without slice has an input
 pub record Readable (s : Step) : Type 0 where
   pub input : T (unsliced-sort s) → 1 ≤ length (s .inputs)
-  pub merges : s .kind ≡ IR.MergeSorted → (s .exprs ≡ []) × (s .aggs ≡ [])
-
--- only a GroupBy's list takes Implodes
-pub merge-unimploded : (s : Step) (es : List Expr) → s .kind ≡ IR.MergeSorted → with-implodes s es .0 ≡ s .aggs
-unfolding with-implodes
-merge-unimploded s es e =
-    ap (λ (k : IR). let x : List ℕ × List Expr = if same-ir k IR.GroupBy then imploded (s .aggs) es else (s .aggs, es) in x .0) e
 
 -- a rule keeps a step's inputs
-inputs-ruled : (n : ℕ) (r : Run) → ruling n r .0 .inputs ≡ step-at (r .steps) n .inputs
+readable-ruled : (n : ℕ) (r : Run) → Readable (step-at (r .steps) n) → Readable (ruled-step n r)
 unfolding looked-in looks-of
-inputs-ruled n r = ruled-by n r .inputs
-
-readable-ruled : (n : ℕ) (r : Run) → Readable (step-at (r .steps) n) → Readable (ruling n r .0)
-unfolding looked-in looks-of
-readable-ruled n r k =
-    record {
-      input = λ t. omega (arith, ap length (inputs-ruled n r), k .input (subst T (ruling-sort n r) t));
-      merges =
-          λ e.
-          elim (ruled-by n r .lists) [
-            | inl (i, j, h) ↦
-                let merge = sym h ∙ e in
-                (i ∙ k .merges merge .0, j ∙ merge-unimploded (step-at (r .steps) n) (r .arena) merge ∙ k .merges merge .1)
-            | inr (i, j, _) ↦ (i, j)
-          ];
-    }
+readable-ruled n r k = record { input = λ t. k .input (subst T (ruling-sort n r) t) }
 
 readable-with-input : (slot input : ℕ) (s : Step) → Readable s → Readable (with-input slot input s)
-readable-with-input slot input s k = record { input = λ t. simp length-set (k .input t); merges = k .merges }
+readable-with-input slot input s k = record { input = λ t. simp length-set (k .input t) }
 
 module _ (n : ℕ) (r : Run) {r′ : Run} (e : simplify-ir-node-orders n r ≡ done r′) where
   readable-visit : Every Readable no-step (r .steps) → Every Readable no-step (r′ .steps)
@@ -83,7 +59,7 @@ module _ (n : ℕ) (r : Run) {r′ : Run} (e : simplify-ir-node-orders n r ≡ d
       ]
 
   -- what is read of a step, if neither another input in a slot nor the rule changes it
-  pub step-kept : {A : Type 0} (f : Step → A) → ((k v : ℕ) (s : Step) → f (with-input k v s) ≡ f s) → f (ruling n (one-visit r) .0) ≡ f (step-at (r .steps) n)
+  pub step-kept : {A : Type 0} (f : Step → A) → ((k v : ℕ) (s : Step) → f (with-input k v s) ≡ f s) → f (ruled-step n (one-visit r)) ≡ f (step-at (r .steps) n)
       → (m : ℕ) → f (step-at (r′ .steps) m) ≡ f (step-at (r .steps) m)
   unfolding unlink-node settled
   step-kept f linked ruled m =
@@ -96,7 +72,8 @@ module _ (n : ℕ) (r : Run) {r′ : Run} (e : simplify-ir-node-orders n r ≡ d
 
   -- a step has as many inputs as it had
   pub inputs-kept : (m : ℕ) → length (step-at (r′ .steps) m .inputs) ≡ length (step-at (r .steps) m .inputs)
-  inputs-kept = step-kept (λ s. length (s .inputs)) (λ k v s. length-set (s .inputs) k v) (ap length (inputs-ruled n (one-visit r)))
+  unfolding looked-in looks-of
+  inputs-kept = step-kept (λ s. length (s .inputs)) (λ k v s. length-set (s .inputs) k v) refl
 
   -- an edge leads where it led
   end-kept : (k : ℕ) → k < length (r .edges) → (edge-at k r′ .consumer ≡ edge-at k r .consumer) × (edge-at k r′ .slot ≡ edge-at k r .slot)
@@ -166,7 +143,6 @@ going-visitable most n ns r few k =
       consumers = λ j h. has-inputs (r .steps) (edge-at j r .consumer) (omega (arith, k .slots j h));
       slots = k .slots;
       input = λ t. (k .readable n .input (goes-sort n r t .0), k .printable .steps n .inputs 0);
-      merges = k .readable n .merges;
     }
 
 -- A well-formed sheet ------------------------------------------------------------------------------------------------------------
@@ -186,13 +162,10 @@ place-there ps plan m i = by (decLt 0 (times m (sinks ps)))
 module _ (sh : Sheet) (wf : WellFormed sh) where
   readable-at-start : Every Readable no-step (sh .steps)
   readable-at-start =
-      every-of Readable no-step (sh .steps) (record { input = λ t. absurd t; merges = λ _. (refl, refl) })
+      every-of Readable no-step (sh .steps) (record { input = λ t. absurd t })
       (λ n h.
       let s = step-at (sh .steps) n in
-      record {
-        input = λ t. omega (arith, plan-of sh wf .one-input n (sort-kind s t));
-        merges = λ e. merge-has-no-entries s e (all-at in-step-table (sh .steps) no-step (wf .steps-in-table) n h);
-      })
+      record { input = λ t. omega (arith, plan-of sh wf .one-input n (sort-kind s t)) })
 
   pub going-begin : Going 288 (graph (sh .steps) .0) (begin sh)
   unfolding begin

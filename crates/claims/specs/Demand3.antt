@@ -12,7 +12,7 @@ use Rattle.plan.specs.Sheet.{Expr, Sheet, done, step-at}
 use Rattle.plan.specs.Faults.{tree}
 use Rattle.plan.specs.Look.{Eos}
 use Rattle.plan.specs.Graph.{Edge, graph, sinks}
-use Rattle.plan.specs.Visit.{Run, simplify-ir-node-orders, looked-in, around, allow-deordering-top, is-out-of, no-edge}
+use Rattle.plan.specs.Visit.{Run, simplify-ir-node-orders, looked-in, around, options-of, allow-deordering-top, is-out-of, no-edge}
 use Rattle.plan.specs.Walks.{begin, down, up, trace}
 use Rattle.plan.specs.Text.{line, edge-line, exprs-block, steps-block}
 use Rattle.plan.specs.Finished.{finished}
@@ -117,7 +117,7 @@ pub record List-bounded (qs : List ℕ) (allow : Bool) (s s′ : Eos) : Type 0 w
 pub record Looks-bounded (n : ℕ) (r : Run) : Type 0 where
   pub exprs :
       let l = looked-in n r in
-      List-bounded (l .step .exprs) (allow-deordering-top (l .step) (around n (r .edges))) (l .start) (l .between)
+      List-bounded (l .step .exprs) (allow-deordering-top (options-of (l .step)) (around n (r .edges))) (l .start) (l .between)
   pub aggs : let l = looked-in n r in List-bounded (l .step .aggs) false (l .between) (l .end)
 
 -- Demand 3 ---------------------------------------------------------------------------------------------------------------------

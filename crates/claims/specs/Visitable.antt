@@ -1,10 +1,8 @@
 -- What the code of a visit leans on: of the step n, in the state r in which it is visited.
-use mathlib.Core.Path.{_≡_}
-use mathlib.Core.List.{[], List·Memᴰ}
+use mathlib.Core.List.{List·Memᴰ}
 use Prim.Native.Nat.{ℕ, _+_, _≤_, _<_, _^_}
 use lib.Dec.{T}
 use lib.ListN.{length, getD}
-use Rattle.plan.specs.declared.ir.IR.{IR}
 use Rattle.plan.specs.Sheet.{step-at}
 use Rattle.plan.specs.Visit.{Run, no-edge, goes, looked-in}
 
@@ -25,5 +23,3 @@ pub record Visitable (n : ℕ) (r : Run) : Type 0 where
       → getD (r .edges) k no-edge .slot < length (step-at (r .steps) (getD (r .edges) k no-edge .consumer) .inputs)
   -- a sort that goes has an input, which is a step
   pub input : T (goes n r) → (1 ≤ length (step-at (r .steps) n .inputs)) × (getD (step-at (r .steps) n .inputs) 0 0 < 32)
-  -- a MergeSorted has no expressions
-  pub merges : step-at (r .steps) n .kind ≡ IR.MergeSorted → (step-at (r .steps) n .exprs ≡ []) × (step-at (r .steps) n .aggs ≡ [])

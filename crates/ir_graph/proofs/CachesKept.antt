@@ -10,7 +10,10 @@ use Rattle.plan.specs.declared.ir.IR.{IR}
 use Rattle.plan.specs.Kinds.{ir-number, same-ir}
 use Rattle.plan.specs.Sheet.{Step, Sheet, done, no-step, step-at, in-step-table}
 use Rattle.plan.specs.Graph.{graph, is-cache}
-use Rattle.plan.specs.Visit.{Run, Around, Observable, rule, ruling, looked-in, looks-of, one-visit, simplify-ir-node-orders}
+use Rattle.plan.specs.declared.rules.Options.{Options}
+use Rattle.plan.specs.declared.rules.Around.{Around}
+use Rattle.plan.specs.declared.rules.Observable.{Observable}
+use Rattle.plan.specs.Visit.{Run, arm, rule, ruling, looked-in, looks-of, one-visit, simplify-ir-node-orders}
 use Rattle.plan.specs.Walks.{begin, down, up, simplify-and-fetch-orderings}
 use Rattle.claims.specs.WellFormed.{WellFormed}
 use Rattle.claims.proofs.Booleans.{T-eq, all-at}
@@ -25,17 +28,17 @@ use Rattle.ir_graph.proofs.UpdateCaches.{first-cache, nothing-updated}
 
 -- A visit ------------------------------------------------------------------------------------------------------------------------
 
-ruled-cache : (s : Step) (e : Around) (o : Observable) → s .kind ≡ IR.Cache → rule s e o (s .kind) .0 .kind ≡ IR.Cache
-unfolding rule
-ruled-cache s e o i = ap (λ (k : IR). rule s e o k .0 .kind) i ∙ i
+ruled-cache : (s : Options) (e : Around) (o : Observable) → s .kind ≡ IR.Cache → rule s e o .options .kind ≡ IR.Cache
+unfolding arm
+ruled-cache s e o i = ap (λ (k : IR). arm s e o k .options .kind) i ∙ i
 
-cache-ruled : (n : ℕ) (r : Run) → same-ir (ruling n r .0 .kind) IR.Cache ≡ is-cache (r .steps) n
+cache-ruled : (n : ℕ) (r : Run) → same-ir (ruling n r .options .kind) IR.Cache ≡ is-cache (r .steps) n
 unfolding ruling looked-in looks-of
 cache-ruled n r =
     let Is : IR → Type 0 = λ k. T (same-ir k IR.Cache) in
-    T-eq (same-ir (ruling n r .0 .kind) IR.Cache) (is-cache (r .steps) n)
-    (λ t. elim (ruled-by n r .lists) [ inl (_, _, k) ↦ subst Is k t | inr (_, _, k) ↦ absurd (subst Is k t) ])
-    (λ t. subst Is (sym (ruled-cache (looked-in n r .step) _ (looked-in n r .observable) (same-kind (step-at (r .steps) n .kind) IR.Cache t))) tt)
+    T-eq (same-ir (ruling n r .options .kind) IR.Cache) (is-cache (r .steps) n)
+    (λ t. elim (ruled-by n r .kind) [ inl k ↦ subst Is k t | inr k ↦ absurd (subst Is k t) ])
+    (λ t. subst Is (sym (ruled-cache _ _ (looked-in n r .observable) (same-kind (step-at (r .steps) n .kind) IR.Cache t))) tt)
 
 -- Both walks ---------------------------------------------------------------------------------------------------------------------
 

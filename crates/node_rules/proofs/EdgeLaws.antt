@@ -17,7 +17,9 @@ use Rattle.plan.specs.Lists.{if_then_else_, all?, select}
 use Rattle.plan.specs.Graph.{Edge}
 use Rattle.storage.specs.Stored.{table}
 use Rattle.storage.proofs.Laws.{length-table, table-at, same-table}
-use Rattle.plan.specs.Visit.{Around, around, is-into, is-out-of, no-edge, out-edge, ins-unordered, outs-unordered, loosen, loosened, relinked}
+use Rattle.plan.specs.declared.rules.Around.{Around}
+use Rattle.plan.specs.declared.rules.Loosened.{Loosened}
+use Rattle.plan.specs.Visit.{around, is-into, is-out-of, no-edge, out-edge, ins-unordered, outs-unordered, loosened, relinked}
 use Rattle.claims.specs.Demand3.{leaving-among}
 use Rattle.node_rules.specs.Held.{producer-of, held-edge, held-edges, around-with, mark}
 
@@ -31,8 +33,8 @@ around-cons n d ds = by (is-into n d) (is-out-of n d)
         let outs = if o then d ∷ select (is-out-of n) ds else select (is-out-of n) ds in
         record {
           ins = all? (λ b. b) ins;
-          in₀ = getD ins 0 false;
-          in₁ = getD ins 1 false;
+          in0 = getD ins 0 false;
+          in1 = getD ins 1 false;
           out = getD outs 0 no-edge .unordered;
           outs = all? (λ (d : Edge). d .unordered) outs;
         })
@@ -42,7 +44,7 @@ around-cons n d ds = by (is-into n d) (is-out-of n d)
     by false true = refl
     by false false = refl
 
-pub around-none : (n : ℕ) → around n [] ≡ record { ins = true; in₀ = false; in₁ = false; out = false; outs = true }
+pub around-none : (n : ℕ) → around n [] ≡ record { ins = true; in0 = false; in1 = false; out = false; outs = true }
 unfolding around ins-unordered out-edge outs-unordered select all?
 around-none n = refl
 
@@ -73,7 +75,7 @@ module _ (g : ℕ → Edge) (n : ℕ) where
 
 -- a loop over the edges of step n, from the last to the first: its invariant is e ≡ around n (drop k edges)
 module _ (consumer slot producer : List ℕ) (unordered : List Bool) (edges n : ℕ) (small : n < 32) where
-  pub no-edge-yet : record { ins = true; in₀ = false; in₁ = false; out = false; outs = true } ≡ around n (drop edges (held-edges consumer slot producer unordered edges))
+  pub no-edge-yet : record { ins = true; in0 = false; in1 = false; out = false; outs = true } ≡ around n (drop edges (held-edges consumer slot producer unordered edges))
   unfolding held-edges
   no-edge-yet = rw (last-edges (held-edge consumer slot producer unordered) edges) (sym (around-none n))
 
@@ -120,21 +122,21 @@ module _ {A : Type 0} (d : A) (change : ℕ → A) (old : List A) where
 
 -- Loosened edges -------------------------------------------------------------------------------------------------------------------
 
-module _ (consumer slot producer : List ℕ) (old : List Bool) (n : ℕ) (in₀ in₁ out : Bool) where
+module _ (consumer slot producer : List ℕ) (old : List Bool) (n : ℕ) (l : Loosened) where
   abbrev pub mark-at : ℕ → Bool
-  mark-at j = mark (getD old j false) (eqb (getD consumer j 0) n) (getD slot j 0) (eqb (getD producer j 0) n) in₀ in₁ out
+  mark-at j = mark (getD old j false) (eqb (getD consumer j 0) n) (getD slot j 0) (eqb (getD producer j 0) n) l
 
   pub all-loosened : n < 32 → (new : List Bool) (edges i : ℕ) → edges ≤ i → Changed false mark-at old new i
-      → held-edges consumer slot producer new edges ≡ map (loosened n (loosen in₀ in₁ out)) (held-edges consumer slot producer old edges)
+      → held-edges consumer slot producer new edges ≡ map (loosened n l) (held-edges consumer slot producer old edges)
   unfolding held-edges held-edge
   all-loosened small new edges i h c =
-      same-table (held-edge consumer slot producer new) (λ j. loosened n (loosen in₀ in₁ out) (held-edge consumer slot producer old j)) edges
+      same-table (held-edge consumer slot producer new) (λ j. loosened n l (held-edge consumer slot producer old j)) edges
       (λ j k. edge j (c .done j (omega arith)) (out-of-held consumer slot producer old j n small))
-      ∙ sym (map-table (loosened n (loosen in₀ in₁ out)) (held-edge consumer slot producer old) 0 edges)
+      ∙ sym (map-table (loosened n l) (held-edge consumer slot producer old) 0 edges)
     where
       edge : (j : ℕ) → getD new j false ≡ mark-at j
           → is-out-of n (held-edge consumer slot producer old j) ≡ eqb (getD producer j 0) n
-          → held-edge consumer slot producer new j ≡ loosened n (loosen in₀ in₁ out) (held-edge consumer slot producer old j)
+          → held-edge consumer slot producer new j ≡ loosened n l (held-edge consumer slot producer old j)
       edge j e o = rw (o, e)
 
 -- Relinked edges -------------------------------------------------------------------------------------------------------------------

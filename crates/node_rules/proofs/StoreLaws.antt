@@ -11,8 +11,8 @@ use Rattle.plan.specs.Sheet.{Step, step-at}
 use Rattle.storage.specs.Stored.{stored-steps, Steps-held}
 use Rattle.storage.proofs.Changes.{formed-still, input-stored, agg-stored, options-stored, formed-options}
 use Rattle.plan.specs.Visit.{with-input, with-aggs}
-use Rattle.node_rules.specs.declared.rules.Ruled.{Ruled}
-use Rattle.node_rules.specs.Held.{ruled-step}
+use Rattle.plan.specs.declared.rules.Options.{Options}
+use Rattle.plan.specs.Visit.{with-options}
 
 module _ (bytes : List ℕ) (n i : ℕ) (held : Steps-held bytes n) (here : i < n) where
   room : n * 32 ≤ length bytes
@@ -53,7 +53,7 @@ module _ (bytes : List ℕ) (n i : ℕ) (held : Steps-held bytes n) (here : i < 
               (omega (arith, held .few, held .size, f .n1, f .n2, f .n3)) (held .formed j h);
         })
 
-  module _ (r : Ruled) (k : ℕ) (kind : k ≡ ir-number (r .kind)) (small : k < 19) where
+  module _ (r : Options) (k : ℕ) (kind : k ≡ ir-number (r .kind)) (small : k < 19) where
     first : i * 32 + 0 ≡ i * 32
     first = omega arith
 
@@ -63,11 +63,11 @@ module _ (bytes : List ℕ) (n i : ℕ) (held : Steps-held bytes n) (here : i < 
 
     pub options-law :
         stored-steps (set (set (set (set bytes (i * 32) k) (i * 32 + 1) (r .a)) (i * 32 + 2) (r .b)) (i * 32 + 3) (r .c)) n
-        ≡ set (stored-steps bytes n) i (ruled-step (step-at (stored-steps bytes n) i) r)
+        ≡ set (stored-steps bytes n) i (with-options r (step-at (stored-steps bytes n) i))
     unfolding stored-at
     options-law =
         let s : Step = step-at (stored-steps bytes n) i in
-        subst (λ (p : ℕ). stored-steps (stored-at p) n ≡ set (stored-steps bytes n) i (ruled-step s r)) first
+        subst (λ (p : ℕ). stored-steps (stored-at p) n ≡ set (stored-steps bytes n) i (with-options r s)) first
         (options-stored bytes n i room (held .formed) here k (r .a) (r .b) (r .c) small
         ∙ ap
         (λ (x : IR).

@@ -1,21 +1,18 @@
--- How the code holds the edges of a run, and what its rules read and give: each tied to the definition's record.
+-- How the code holds the edges of a run.
 use mathlib.Core.Path.{_≡_}
 use Prim.Native.Nat.{ℕ, _+_, _*_, _≤_, _<_}
 use mathlib.Core.Bool.{Bool, true, false, _&&_, _||_}
-use mathlib.Core.List.{List, [], map}
+use mathlib.Core.List.{List, map}
 use mathlib.Core.Option.{Option, none, some}
 use lib.Dec.{eqb}
-use lib.ListN.{length, getD, set, take, replicate}
+use lib.ListN.{length, getD, set, take}
 use Rattle.plan.specs.Lists.{if_then_else_}
 use Rattle.plan.specs.Sheet.{Step, step-at}
 use Rattle.plan.specs.Graph.{Edge}
 use Rattle.storage.specs.Stored.{table}
-use Rattle.plan.specs.Visit.{Loosened}
+use Rattle.plan.specs.declared.rules.Around.{Around}
+use Rattle.plan.specs.declared.rules.Loosened.{Loosened}
 use Rattle.plan.specs.Visit as Visit
-use Rattle.node_rules.specs.declared.around.Around.{Around}
-use Rattle.node_rules.specs.declared.rules.Observable.{Observable}
-use Rattle.node_rules.specs.declared.rules.Options.{Options}
-use Rattle.node_rules.specs.declared.rules.Ruled.{Ruled}
 use Rattle.node_rules.specs.declared.steps.Entries.{Entries}
 
 -- Edges: consumer and slot never change; an edge into a removed sort has the producer 255, which is no step's ------------------
@@ -35,42 +32,23 @@ held-edge consumer slot producer unordered k =
 unfoldable pub held-edges : List ℕ → List ℕ → List ℕ → List Bool → ℕ → List Edge
 held-edges consumer slot producer unordered n = table (held-edge consumer slot producer unordered) 0 n
 
--- What a rule reads and gives -------------------------------------------------------------------------------------------------
-
-abbrev pub around-of : Around → Visit.Around
-around-of e = record { ins = e .ins; in₀ = e .in0; in₁ = e .in1; out = e .out; outs = e .outs }
-
-abbrev pub observable-of : Observable → Visit.Observable
-observable-of o = record { exprs = o .exprs; aggs = o .aggs; internal = o .internal }
-
--- a step with those options, and as many expressions
-abbrev pub step-of : Options → Step
-step-of s = record { kind = s .kind; a = s .a; b = s .b; c = s .c; inputs = []; exprs = replicate (s .n2) 0; aggs = [] }
-
--- what the rules read of a step
-abbrev pub options-of : Step → Options
-options-of s = record { kind = s .kind; a = s .a; b = s .b; c = s .c; n2 = length (s .exprs) }
-
-abbrev pub ruled-of : Step × Loosened → Ruled
-ruled-of (s, l) = record { kind = s .kind; a = s .a; b = s .b; c = s .c; in0 = l .in₀; in1 = l .in₁; out = l .out }
-
 -- The edges of a step, one edge more in front of those gone through -------------------------------------------------------------
 
 -- into and out-of: is the edge one of the step's? u: is it unordered?
-abbrev pub around-with : Bool → Bool → Bool → Visit.Around → Visit.Around
+abbrev pub around-with : Bool → Bool → Bool → Around → Around
 around-with into out-of u e =
     record {
       ins = if into then u && e .ins else e .ins;
-      in₀ = if into then u else e .in₀;
-      in₁ = if into then e .in₀ else e .in₁;
+      in0 = if into then u else e .in0;
+      in1 = if into then e .in0 else e .in1;
       out = if out-of then u else e .out;
       outs = if out-of then u && e .outs else e .outs;
     }
 
 -- Loosening: is an edge unordered afterwards? ------------------------------------------------------------------------------------
 
-abbrev pub mark : Bool → Bool → ℕ → Bool → Bool → Bool → Bool → Bool
-mark u into k out-of in₀ in₁ out = u || (into && (if eqb k 0 then in₀ else in₁)) || (out-of && out)
+abbrev pub mark : Bool → Bool → ℕ → Bool → Loosened → Bool
+mark u into k out-of l = u || (into && (if eqb k 0 then l .in0 else l .later)) || (out-of && l .out)
 
 -- The steps -----------------------------------------------------------------------------------------------------------------------
 
@@ -79,11 +57,6 @@ pub record Is-list (xs : List ℕ) (e : Entries) : Type 0 where
   pub is : take (e .count) (e .nodes) ≡ xs
   pub few : e .count ≤ 8
   pub room : length (e .nodes) ≡ 8
-
--- a step with the kind and options that a rule gave it
-abbrev pub ruled-step : Step → Ruled → Step
-ruled-step s r =
-    record { kind = r .kind; a = r .a; b = r .b; c = r .c; inputs = s .inputs; exprs = s .exprs; aggs = s .aggs }
 
 -- the steps, with another entry k in the n3 list of step i
 abbrev pub with-agg : ℕ → ℕ → ℕ → List Step → List Step

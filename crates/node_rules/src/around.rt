@@ -3,21 +3,9 @@ ghost use mathlib.Core.Path.{_≡_};
 ghost use Prim.Native.Nat.{_≤_, _<_};
 ghost use Rattle.plan.specs.Lists.{if_then_else_};
 ghost use Rattle.plan.specs.Visit.{around};
-ghost use Rattle.node_rules.specs.Held.{around-of, around-with, held-edges};
+ghost use Rattle.node_rules.specs.Held.{around-with, held-edges};
+use plan::rules::Around;
 
-// Which of them are unordered.
-pub struct Around {
-    // all in_edges
-    pub ins: bool,
-    // the one of slot 0
-    pub in0: bool,
-    // the one of slot 1
-    pub in1: bool,
-    // the one out_edge
-    pub out: bool,
-    // all out_edges
-    pub outs: bool,
-}
 
 fn pick(b: bool, x: bool, y: bool) -> bool
     ensures { λ r. ⌜ r ≡ (if b then x else y) ⌝ }
@@ -27,7 +15,7 @@ fn pick(b: bool, x: bool, y: bool) -> bool
 
 // One edge more, in front of those gone through.
 fn with_edge(e: Around, into: bool, out_of: bool, unordered: bool) -> Around
-    ensures { λ r. ⌜ around-of r ≡ around-with into «out_of» unordered (around-of e) ⌝ }
+    ensures { λ r. ⌜ r ≡ around-with into «out_of» unordered e ⌝ }
 {
     Around {
         ins: pick(into, unordered & e.ins, e.ins),
@@ -49,7 +37,7 @@ pub fn around_step(
 ) -> Around
     requires { ⌜ edges ≤ 256 ⌝ }
     requires { ⌜ n < 32 ⌝ }
-    ensures { λ r. ⌜ around-of r ≡ around n (held-edges (now (consumer .entry)) (now (slot .entry)) (now (producer .entry)) (now (unordered .entry)) edges) ⌝ }
+    ensures { λ r. ⌜ r ≡ around n (held-edges (now (consumer .entry)) (now (slot .entry)) (now (producer .entry)) (now (unordered .entry)) edges) ⌝ }
 {
     let mut e = Around {
         ins: true,

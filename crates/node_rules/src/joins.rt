@@ -2,13 +2,13 @@
 ghost use mathlib.Core.Path.{_≡_};
 ghost use Rattle.plan.specs.Lists.{if_then_else_};
 ghost use Rattle.plan.specs.Visit.{join-rule, without-left, without-right};
-ghost use Rattle.node_rules.specs.Held.{around-of, observable-of, step-of, ruled-of};
-use crate::around::Around;
-use crate::rules::Observable;
-use crate::rules::Options;
-use crate::rules::Ruled;
+use crate::rules::ruled;
 use plan::join::JoinType;
 use plan::join::MaintainOrderJoin;
+use plan::rules::Around;
+use plan::rules::Observable;
+use plan::rules::Options;
+use plan::rules::Ruled;
 
 // A Join's kept sides, the left side's order gone.
 fn without_left(m: MaintainOrderJoin) -> MaintainOrderJoin
@@ -44,21 +44,12 @@ fn kept_sides(gone: bool, fewer: MaintainOrderJoin, m: MaintainOrderJoin) -> Mai
 
 // AsOf: at once on all three edges. Any other: first on all three, then the left side, then the right.
 pub fn join_rule(s: Options, e: Around, o: Observable) -> Ruled
-    ensures { λ r. ⌜ r ≡ ruled-of (join-rule (step-of s) (around-of e) (observable-of o)) ⌝ }
+    ensures { λ r. ⌜ r ≡ join-rule s e o ⌝ }
 {
-    let kind = s.kind;
     let how = JoinType::of_number(s.a).number();
     if how == 3 {
         let as_of = e.in0 | (e.out & e.in1);
-        return Ruled {
-            kind: kind,
-            a: s.a,
-            b: s.b,
-            c: s.c,
-            in0: as_of,
-            in1: as_of,
-            out: as_of,
-        };
+        return ruled(s, as_of, as_of, as_of);
     }
     let m = MaintainOrderJoin::of_number(s.b);
     let all = e.out | (m.number() == 0);
@@ -67,13 +58,13 @@ pub fn join_rule(s: Options, e: Around, o: Observable) -> Ruled
     let m2 = kept_sides(lhs, without_left(m1), m1);
     let rhs = (e.in1 | all) | (m2.number() == 1) | ((how == 1) | (how == 2));
     let m3 = kept_sides(rhs, without_right(m2), m2);
-    Ruled {
+    let kind = s.kind;
+    let options = Options {
         kind: kind,
         a: s.a,
         b: m3.number(),
         c: s.c,
-        in0: lhs,
-        in1: rhs,
-        out: all,
-    }
+        n2: s.n2,
+    };
+    ruled(options, lhs, rhs, all)
 }

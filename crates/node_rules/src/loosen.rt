@@ -3,17 +3,18 @@ ghost use mathlib.Core.Path.{_≡_};
 ghost use mathlib.Core.List.{map};
 ghost use Prim.Native.Nat.{_≤_, _<_};
 ghost use lib.ListN.{length};
-ghost use Rattle.plan.specs.Visit.{loosen, loosened};
+ghost use Rattle.plan.specs.Visit.{loosened};
 ghost use Rattle.node_rules.specs.Held.{held-edges, mark};
+use plan::rules::Loosened;
 
 // Is an edge unordered after the visit? It is one into slot k of the step, or out of it, or neither.
-fn marked(unordered: bool, into: bool, k: u8, out_of: bool, in0: bool, in1: bool, out: bool) -> bool
-    ensures { λ r. ⌜ r ≡ mark unordered into k «out_of» in0 in1 out ⌝ }
+fn marked(unordered: bool, into: bool, k: u8, out_of: bool, l: Loosened) -> bool
+    ensures { λ r. ⌜ r ≡ mark unordered into k «out_of» l ⌝ }
 {
     if k == 0 {
-        return unordered | (into & in0) | (out_of & out);
+        return unordered | (into & l.in0) | (out_of & l.out);
     }
-    unordered | (into & in1) | (out_of & out)
+    unordered | (into & l.later) | (out_of & l.out)
 }
 
 // The edges of step n: into slot 0, into the later slots, out.
@@ -24,26 +25,16 @@ pub fn loosen_edges(
     unordered: &mut [bool; 256],
     edges: usize,
     n: u8,
-    in0: bool,
-    in1: bool,
-    out: bool,
+    l: Loosened,
 )
     requires { ⌜ (edges ≤ 256) × (n < 32) × (length (now unordered) ≡ 256) ⌝ }
-    ensures { λ r. ⌜ held-edges (now (consumer .entry)) (now (slot .entry)) (now (producer .entry)) (now (unordered .exit)) edges ≡ map (loosened n (loosen in0 in1 out)) (held-edges (now (consumer .entry)) (now (slot .entry)) (now (producer .entry)) (now (unordered .entry)) edges) ⌝ }
+    ensures { λ r. ⌜ held-edges (now (consumer .entry)) (now (slot .entry)) (now (producer .entry)) (now (unordered .exit)) edges ≡ map (loosened n l) (held-edges (now (consumer .entry)) (now (slot .entry)) (now (producer .entry)) (now (unordered .entry)) edges) ⌝ }
     ensures { λ r. ⌜ length (now (unordered .exit)) ≡ 256 ⌝ }
 {
     let mut i: usize = 0;
     while i < edges {
         let u = unordered[i];
-        unordered[i] = marked(
-            u,
-            consumer[i] == n,
-            slot[i],
-            producer[i] == n,
-            in0,
-            in1,
-            out,
-        );
+        unordered[i] = marked(u, consumer[i] == n, slot[i], producer[i] == n, l);
         i = i + 1;
     }
 }

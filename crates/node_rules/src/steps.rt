@@ -4,9 +4,10 @@ ghost use Prim.Native.Nat.{_+_, _≤_, _<_};
 ghost use lib.ListN.{length, take, drop};
 ghost use Rattle.plan.specs.Sheet.{step-at};
 ghost use Rattle.storage.specs.Stored.{stored-steps, Steps-held};
-ghost use Rattle.node_rules.specs.Held.{options-of, Is-list};
-use crate::rules::Options;
+ghost use Rattle.plan.specs.Visit.{options-of};
+ghost use Rattle.node_rules.specs.Held.{Is-list};
 use plan::ir::IR;
+use plan::rules::Options;
 
 // A list of expressions: the first `count` of the nodes.
 pub struct Entries {

@@ -4,23 +4,22 @@ ghost use Prim.Native.Nat.{_+_, _*_, _<_};
 ghost use lib.ListN.{getD, set};
 ghost use Rattle.plan.specs.Sheet.{step-at};
 ghost use Rattle.storage.specs.Stored.{stored-steps, Steps-held};
-ghost use Rattle.plan.specs.Visit.{with-input, with-aggs};
-ghost use Rattle.node_rules.specs.Held.{ruled-step};
-use crate::rules::Ruled;
+ghost use Rattle.plan.specs.Visit.{with-options, with-input, with-aggs};
+use plan::rules::Options;
 
 // Kind and options of step i.
-pub fn store_options(steps: &mut [u8; 1024], n: usize, i: usize, r: Ruled)
+pub fn store_options(steps: &mut [u8; 1024], n: usize, i: usize, o: Options)
     requires { ⌜ Steps-held (now steps) n ⌝ }
     requires { ⌜ i < n ⌝ }
-    ensures { λ _. ⌜ stored-steps (now (steps .exit)) n ≡ set (stored-steps (now (steps .entry)) n) i (ruled-step (step-at (stored-steps (now (steps .entry)) n) i) r) ⌝ }
+    ensures { λ _. ⌜ stored-steps (now (steps .exit)) n ≡ set (stored-steps (now (steps .entry)) n) i (with-options o (step-at (stored-steps (now (steps .entry)) n) i)) ⌝ }
     ensures { λ _. ⌜ Steps-held (now (steps .exit)) n ⌝ }
 {
     let b = i * 32;
-    let kind = r.kind;
+    let kind = o.kind;
     steps[b] = kind.number();
-    steps[b + 1] = r.a;
-    steps[b + 2] = r.b;
-    steps[b + 3] = r.c;
+    steps[b + 1] = o.a;
+    steps[b + 2] = o.b;
+    steps[b + 3] = o.c;
 }
 
 // The input in a slot of step i.

@@ -10,7 +10,11 @@ use Rattle.plan.specs.declared.ir.IR.{IR}
 use Rattle.plan.specs.declared.distinct.UniqueKeepStrategy.{UniqueKeepStrategy}
 use Rattle.plan.specs.declared.join.JoinType.{JoinType}
 use Rattle.plan.specs.declared.join.MaintainOrderJoin.{MaintainOrderJoin}
-use Rattle.plan.specs.declared.orders.ObservableOrders.{ObservableOrders}
+use Rattle.plan.specs.declared.rules.Options.{Options}
+use Rattle.plan.specs.declared.rules.Around.{Around}
+use Rattle.plan.specs.declared.rules.Observable.{Observable}
+use Rattle.plan.specs.declared.rules.Loosened.{Loosened}
+use Rattle.plan.specs.declared.rules.Ruled.{Ruled}
 use Rattle.plan.specs.Kinds.{same-ir, keep-strategy, keep-strategy-number, join-type, same-join-type, maintain-order, maintain-order-number, same-maintain-order, function-ir}
 use Rattle.plan.specs.FunctionFlags.{contains}
 use Rattle.plan.specs.FunctionIR.{is-order-producing, observes-input-order, has-equal-order}
@@ -30,37 +34,24 @@ pub record Run : Type 0 where
   pub visits : ℕ
   pub looks : ℕ
 
--- What the rules read ----------------------------------------------------------------------------------------------------
+-- What the rules read and give: Options, Around, Observable, Loosened and Ruled are the code's own types (plan/src/rules.rt) --------
 
--- a step's edges as the visit finds them: are they unordered?
-pub record Around : Type 0 where
-  pub ins : Bool  -- all in_edges
-  pub in₀ : Bool  -- the one of slot 0: in_edge, in_edge_lhs
-  pub in₁ : Bool  -- of slot 1: in_edge_rhs, idxs_edge
-  pub out : Bool  -- the one out_edge
-  pub outs : Bool  -- all out_edges
+-- what the rules read of a step
+abbrev pub options-of : Step → Options
+options-of s = record { kind = s .kind; a = s .a; b = s .b; c = s .c; n2 = length (s .exprs) }
 
--- what the looks along the n2 list and along the n3 list answered, and internally_observed_orders
-pub record Observable : Type 0 where
-  pub exprs : ObservableOrders
-  pub aggs : ObservableOrders
-  pub internal : ObservableOrders
+-- a step with the kind and options that a rule gave
+abbrev pub with-options : Options → Step → Step
+with-options o s =
+    record { kind = o .kind; a = o .a; b = o .b; c = o .c; inputs = s .inputs; exprs = s .exprs; aggs = s .aggs }
 
--- which edges a rule loosens, that is sets to Edge::Unordered: into slot 0, into the later slots, out
-pub record Loosened : Type 0 where
-  pub in₀ : Bool
-  pub in₁ : Bool
-  pub out : Bool
-
-abbrev pub loosen : Bool → Bool → Bool → Loosened
-loosen i j o = record { in₀ = i; in₁ = j; out = o }
-
-abbrev pub with-options : ℕ → ℕ → ℕ → Step → Step
-with-options a b c s = record { kind = s .kind; a = a; b = b; c = c; inputs = s .inputs; exprs = s .exprs; aggs = s .aggs }
+-- with these options, and these edges loosened: into slot 0, into the later slots, out
+abbrev pub ruled : Options → Bool → Bool → Bool → Ruled
+ruled s in₀ later out = record { options = s; loosened = record { in0 = in₀; later = later; out = out } }
 
 -- maintain_order = false, where it is so
-abbrev pub unmaintained-if : Bool → Step → Step
-unmaintained-if l s = with-options (if l then 0 else s .a) (s .b) (s .c) s
+abbrev pub unmaintained-if : Bool → Options → Options
+unmaintained-if l s = record { kind = s .kind; a = if l then 0 else s .a; b = s .b; c = s .c; n2 = s .n2 }
 
 -- K::First | K::Last
 abbrev pub first-or-last : UniqueKeepStrategy → Bool
@@ -87,8 +78,8 @@ without-right MaintainOrderJoin.RightLeft = MaintainOrderJoin.Left
 
 -- The rules of a visit that removes nothing --------------------------------------------------------------------------------
 
--- A name for each place that loosens an edge, in the Rust's order: when it does. s is the step, e its edges, o what its looks observed.
-module _ (s : Step) (e : Around) (o : Observable) where
+-- A name for each place that loosens an edge, in the Rust's order: when it does. s are the step's options, e its edges, o what its looks observed.
+module _ (s : Options) (e : Around) (o : Observable) where
   abbrev pub maintains-order : Bool
   maintains-order = yes? (s .a)
 
@@ -97,7 +88,7 @@ module _ (s : Step) (e : Around) (o : Observable) where
 
   -- Select, HStack: is it an HStack that keeps columns of its input?
   abbrev pub is-hstack : Bool
-  is-hstack = same-ir (s .kind) IR.HStack && not (eqb (s .a) (length (s .exprs)))
+  is-hstack = same-ir (s .kind) IR.HStack && not (eqb (s .a) (s .n2))
 
   abbrev pub input-order-observe : Bool
   input-order-observe =
@@ -107,18 +98,18 @@ module _ (s : Step) (e : Around) (o : Observable) where
   select-in = not input-order-observe
 
   abbrev pub select-out : Bool
-  select-out = not (o .exprs .independent) && ((e .in₀ || select-in) || not (is-hstack || o .exprs .column))
+  select-out = not (o .exprs .independent) && ((e .in0 || select-in) || not (is-hstack || o .exprs .column))
 
   -- Sort, kept
   abbrev pub sort-in : Bool
-  sort-in = e .in₀ || not (maintains-order || o .internal .column || o .exprs .independent)
+  sort-in = e .in0 || not (maintains-order || o .internal .column || o .exprs .independent)
 
   -- Filter
   abbrev pub filter-in : Bool
   filter-in = e .out && not (o .internal .column || o .exprs .independent)
 
   abbrev pub filter-out : Bool
-  filter-out = e .in₀ || filter-in
+  filter-out = e .in0 || filter-in
 
   -- GroupBy; its option b adds 1 apply, 2 dynamic, 4 rolling
   abbrev pub order-observing-options : Bool
@@ -131,14 +122,14 @@ module _ (s : Step) (e : Around) (o : Observable) where
       || (maintains-order && o .exprs .column && not (e .out)))
 
   abbrev pub group-by-out : Bool
-  group-by-out = e .out || not maintains-order || ((e .in₀ || group-by-in) && not (o .exprs .independent))
+  group-by-out = e .out || not maintains-order || ((e .in0 || group-by-in) && not (o .exprs .independent))
 
   -- Distinct
   abbrev pub distinct-out : Bool
   distinct-out = not maintains-order || (e .out && not has-slice)
 
   abbrev pub distinct-in : Bool
-  distinct-in = e .in₀ || (distinct-out && not (first-or-last (keep-strategy (s .c))))
+  distinct-in = e .in0 || (distinct-out && not (first-or-last (keep-strategy (s .c))))
 
   abbrev pub distinct-keeps : UniqueKeepStrategy
   distinct-keeps =
@@ -146,7 +137,7 @@ module _ (s : Step) (e : Around) (o : Observable) where
 
   -- Join: AsOf at once on all three edges
   abbrev pub as-of : Bool
-  as-of = e .in₀ || (e .out && e .in₁)
+  as-of = e .in0 || (e .out && e .in1)
 
   -- any other: first on all three, then the left side, then the right
   abbrev pub join-all : Bool
@@ -156,7 +147,7 @@ module _ (s : Step) (e : Around) (o : Observable) where
   kept-by-all = if join-all then MaintainOrderJoin.None else maintain-order (s .b)
 
   abbrev pub join-lhs : Bool
-  join-lhs = (e .in₀ || join-all) || same-maintain-order kept-by-all MaintainOrderJoin.Right
+  join-lhs = (e .in0 || join-all) || same-maintain-order kept-by-all MaintainOrderJoin.Right
 
   abbrev pub kept-by-lhs : MaintainOrderJoin
   kept-by-lhs = if join-lhs then without-left kept-by-all else kept-by-all
@@ -165,22 +156,24 @@ module _ (s : Step) (e : Around) (o : Observable) where
   semi-or-anti = same-join-type (join-type (s .a)) JoinType.Semi || same-join-type (join-type (s .a)) JoinType.Anti
 
   abbrev pub join-rhs : Bool
-  join-rhs = (e .in₁ || join-all) || same-maintain-order kept-by-lhs MaintainOrderJoin.Left || semi-or-anti
+  join-rhs = (e .in1 || join-all) || same-maintain-order kept-by-lhs MaintainOrderJoin.Left || semi-or-anti
 
   abbrev pub kept-by-rhs : MaintainOrderJoin
   kept-by-rhs = if join-rhs then without-right kept-by-lhs else kept-by-lhs
 
-  abbrev pub join-rule : Step × Loosened
+  abbrev pub join-rule : Ruled
   join-rule =
-      if same-join-type (join-type (s .a)) JoinType.AsOf then (s, loosen as-of as-of as-of)
-      else (with-options (s .a) (maintain-order-number kept-by-rhs) (s .c) s, loosen join-lhs join-rhs join-all)
+      if same-join-type (join-type (s .a)) JoinType.AsOf then ruled s as-of as-of as-of
+      else
+        ruled (record { kind = s .kind; a = s .a; b = maintain-order-number kept-by-rhs; c = s .c; n2 = s .n2 }) join-lhs join-rhs
+        join-all
 
   -- Gather: the input's edge stays as it is
   abbrev pub gather-idxs : Bool
   gather-idxs = e .out
 
   abbrev pub gather-out : Bool
-  gather-out = e .in₁ || gather-idxs
+  gather-out = e .in1 || gather-idxs
 
   -- Union: all its edges
   abbrev pub union-all : Bool
@@ -188,10 +181,10 @@ module _ (s : Step) (e : Around) (o : Observable) where
 
   -- MergeSorted: all three, and it becomes a Union
   abbrev pub merge-sorted-all : Bool
-  merge-sorted-all = e .out || (e .in₀ && e .in₁)
+  merge-sorted-all = e .out || (e .in0 && e .in1)
 
-  abbrev pub unordered-union : Step
-  unordered-union = record { kind = IR.Union; a = 0; b = 0; c = 0; inputs = s .inputs; exprs = []; aggs = [] }
+  abbrev pub unordered-union : Options
+  unordered-union = record { kind = IR.Union; a = 0; b = 0; c = 0; n2 = s .n2 }
 
   -- MapFunction
   abbrev pub map-in : Bool
@@ -199,58 +192,69 @@ module _ (s : Step) (e : Around) (o : Observable) where
 
   abbrev pub map-out : Bool
   map-out =
-      not (is-order-producing (function-ir (s .a)) (not (e .in₀ || map-in)))
-      && ((e .in₀ || map-in) || not (has-equal-order (function-ir (s .a))))
+      not (is-order-producing (function-ir (s .a)) (not (e .in0 || map-in)))
+      && ((e .in0 || map-in) || not (has-equal-order (function-ir (s .a))))
 
   -- SimpleProjection: both
   abbrev pub projection-both : Bool
-  projection-both = e .in₀ || e .out
+  projection-both = e .in0 || e .out
 
   -- Cache: its out-edges, or else its in-edge
   abbrev pub cache-outs : Bool
-  cache-outs = e .in₀
+  cache-outs = e .in0
 
   abbrev pub cache-in : Bool
-  cache-in = not (e .in₀) && e .outs
+  cache-in = not (e .in0) && e .outs
 
   -- Sink
   abbrev pub sink-in : Bool
-  sink-in = not maintains-order || e .in₀
+  sink-in = not maintains-order || e .in0
 
-  -- the step after the visit, and the edges loosened
-  unfoldable pub rule : IR → Step × Loosened
-  rule IR.Scan = (s, loosen false false false)
-  rule IR.UnoptimizedDispatch = (s, loosen false false false)
-  rule IR.Sink = (unmaintained-if sink-in s, loosen sink-in false false)
-  rule IR.Select = (s, loosen select-in false select-out)
-  rule IR.HStack = (s, loosen select-in false select-out)
-  rule IR.Sort = (unmaintained-if sort-in s, loosen sort-in false false)
-  rule IR.Filter = (s, loosen filter-in false filter-out)
-  rule IR.GroupBy = (unmaintained-if group-by-out s, loosen group-by-in false group-by-out)
-  rule IR.Distinct =
-      let off = unmaintained-if (distinct-out || distinct-in) s in
-      (with-options (off .a) (s .b) (keep-strategy-number distinct-keeps) s, loosen distinct-in false distinct-out)
-  rule IR.Join = join-rule
-  rule IR.Gather = (s, loosen false gather-idxs gather-out)
-  rule IR.Union = (unmaintained-if union-all s, loosen union-all union-all union-all)
-  rule IR.MergeSorted =
-      ((if merge-sorted-all then unordered-union else s), loosen merge-sorted-all merge-sorted-all merge-sorted-all)
-  rule IR.MapFunction = (s, loosen map-in false map-out)
-  rule IR.HConcat = (s, loosen false false (e .ins))
-  rule IR.Slice = (s, loosen false false (e .ins))
-  rule IR.ExtContext = (s, loosen false false (e .ins))
-  rule IR.SimpleProjection = (s, loosen projection-both false projection-both)
-  rule IR.Cache = (s, loosen cache-in false cache-outs)
+  abbrev pub distinct-options : Options
+  distinct-options =
+      record {
+        kind = s .kind;
+        a = if distinct-out || distinct-in then 0 else s .a;
+        b = s .b;
+        c = keep-strategy-number distinct-keeps;
+        n2 = s .n2;
+      }
+
+  -- the match: an arm per kind
+  unfoldable pub arm : IR → Ruled
+  arm IR.Scan = ruled s false false false
+  arm IR.UnoptimizedDispatch = ruled s false false false
+  arm IR.Sink = ruled (unmaintained-if sink-in s) sink-in false false
+  arm IR.Select = ruled s select-in false select-out
+  arm IR.HStack = ruled s select-in false select-out
+  arm IR.Sort = ruled (unmaintained-if sort-in s) sort-in false false
+  arm IR.Filter = ruled s filter-in false filter-out
+  arm IR.GroupBy = ruled (unmaintained-if group-by-out s) group-by-in false group-by-out
+  arm IR.Distinct = ruled distinct-options distinct-in false distinct-out
+  arm IR.Join = join-rule
+  arm IR.Gather = ruled s false gather-idxs gather-out
+  arm IR.Union = ruled (unmaintained-if union-all s) union-all union-all union-all
+  arm IR.MergeSorted = ruled (if merge-sorted-all then unordered-union else s) merge-sorted-all merge-sorted-all merge-sorted-all
+  arm IR.MapFunction = ruled s map-in false map-out
+  arm IR.HConcat = ruled s false false (e .ins)
+  arm IR.Slice = ruled s false false (e .ins)
+  arm IR.ExtContext = ruled s false false (e .ins)
+  arm IR.SimpleProjection = ruled s projection-both false projection-both
+  arm IR.Cache = ruled s cache-in false cache-outs
+
+-- the step's options after the visit, and the edges loosened
+abbrev pub rule : Options → Around → Observable → Ruled
+rule s e o = arm s e o (s .kind)
 
 -- Refusals 10 and 11: the keys of a Join and of a partitioned Sink should be elementwise ---------------------------------------
 
 abbrev pub elementwise : Observable → Bool
 elementwise o = not ((o .exprs ∪ o .aggs) .independent) && not (o .internal .column)
 
-abbrev pub join-fails : Step → Observable → Bool
+abbrev pub join-fails : Options → Observable → Bool
 join-fails s o = same-ir (s .kind) IR.Join && not (elementwise o)
 
-abbrev pub sink-fails : Step → Observable → Bool
+abbrev pub sink-fails : Options → Observable → Bool
 sink-fails s o = same-ir (s .kind) IR.Sink && yes? (s .b) && not (elementwise o)
 
 -- The edges of a step ------------------------------------------------------------------------------------------------------
@@ -279,8 +283,8 @@ around n ds =
     let ins = ins-unordered n ds in
     record {
       ins = all? (λ b. b) ins;
-      in₀ = getD ins 0 false;
-      in₁ = getD ins 1 false;
+      in0 = getD ins 0 false;
+      in1 = getD ins 1 false;
       out = out-edge n ds .unordered;
       outs = outs-unordered n ds;
     }
@@ -292,7 +296,7 @@ loosened n l d =
       slot = d .slot;
       producer = d .producer;
       unordered =
-          d .unordered || (is-into n d && (if eqb (d .slot) 0 then l .in₀ else l .in₁)) || (is-out-of n d && l .out);
+          d .unordered || (is-into n d && (if eqb (d .slot) 0 then l .in0 else l .later)) || (is-out-of n d && l .out);
     }
 
 -- The looks of a visit -----------------------------------------------------------------------------------------------------
@@ -319,11 +323,11 @@ abbrev pub with-aggs : List ℕ → Step → Step
 with-aggs qs s = record { kind = s .kind; a = s .a; b = s .b; c = s .c; inputs = s .inputs; exprs = s .exprs; aggs = qs }
 
 -- allow_deordering_top of the n2 list; of the n3 list it is false
-unfoldable pub allow-deordering-top : Step → Around → Bool
+unfoldable pub allow-deordering-top : Options → Around → Bool
 allow-deordering-top s e =
     if same-ir (s .kind) IR.Select then e .out
-    else if same-ir (s .kind) IR.HStack then e .out && (e .in₀ || eqb (s .a) (length (s .exprs)))
-    else if same-ir (s .kind) IR.GroupBy then e .in₀ && not (yes? (s .a))
+    else if same-ir (s .kind) IR.HStack then e .out && (e .in0 || eqb (s .a) (s .n2))
+    else if same-ir (s .kind) IR.GroupBy then e .in0 && not (yes? (s .a))
     else false
 
 -- the looks of a visit: the step with its Implodes, the states before the n2 list, between the two lists and after the n3 list,
@@ -344,7 +348,7 @@ unfoldable pub looks-of : Step → Around → List Expr → ℕ → Looked
 looks-of s e es looks =
     let (aggs, arena) = with-implodes s es in
     let start = expr-order-simplifier arena looks in
-    let (exprs-observable, between) = simplify-projected-exprs (s .exprs) (allow-deordering-top s e) start in
+    let (exprs-observable, between) = simplify-projected-exprs (s .exprs) (allow-deordering-top (options-of s) e) start in
     let (aggs-observable, end) = simplify-projected-exprs aggs false between in
     record {
       step = with-aggs aggs s;
@@ -403,15 +407,19 @@ unfoldable pub looked-in : ℕ → Run → Looked
 looked-in n r = looks-of (step-at (r .steps) n) (around n (r .edges)) (r .arena) (r .looks)
 
 -- what the step's rule makes of what was observed
-unfoldable pub ruling : ℕ → Run → Step × Loosened
-ruling n r = let l = looked-in n r in rule (l .step) (around n (r .edges)) (l .observable) (l .step .kind)
+unfoldable pub ruling : ℕ → Run → Ruled
+ruling n r = let l = looked-in n r in rule (options-of (l .step)) (around n (r .edges)) (l .observable)
+
+-- and so of the step
+abbrev pub ruled-step : ℕ → Run → Step
+ruled-step n r = with-options (ruling n r .options) (looked-in n r .step)
 
 unfoldable pub settled : ℕ → Run → Run
 settled n r =
     record {
       arena = looked-in n r .end .expr-arena;
-      steps = set (r .steps) n (ruling n r .0);
-      edges = map (loosened n (ruling n r .1)) (r .edges);
+      steps = set (r .steps) n (ruled-step n r);
+      edges = map (loosened n (ruling n r .loosened)) (r .edges);
       back = n ∷ r .back;
       removed = r .removed;
       visits = r .visits;
@@ -422,7 +430,8 @@ settled n r =
 unfoldable pub refusal-in : ℕ → Run → ℕ
 refusal-in n r =
     let l = looked-in n r in
-    if join-fails (l .step) (l .observable) then 10 else if sink-fails (l .step) (l .observable) then 11 else 0
+    let s = options-of (l .step) in
+    if join-fails s (l .observable) then 10 else if sink-fails s (l .observable) then 11 else 0
 
 -- a visit that removes nothing
 unfoldable pub settle : ℕ → Run → Outcome Run

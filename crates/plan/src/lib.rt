@@ -7,4 +7,5 @@ pub mod function_ir; // function_ir.rt: FunctionIR
 pub mod ir; // ir.rt: IR
 pub mod join; // join.rt: JoinType, MaintainOrderJoin
 pub mod orders; // orders.rt: ObservableOrders
+pub mod rules; // rules.rt: Options, Around, Observable, Loosened, Ruled: what a rule reads and gives
 pub mod sizes; // sizes.rt: the length of an array, as a fact for proofs

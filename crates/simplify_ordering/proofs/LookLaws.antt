@@ -13,7 +13,8 @@ use Rattle.plan.specs.Kinds.{ir-number}
 use Rattle.plan.specs.Sheet.{Expr, Step, no-step, step-at}
 use Rattle.plan.specs.Look as plan
 use Rattle.storage.specs.Stored.{arena-of, stored-steps, Steps-held}
-use Rattle.plan.specs.Visit.{imploded, with-implodes, with-aggs, allow-deordering-top, looks-of}
+use Rattle.plan.specs.Visit.{imploded, with-implodes, with-aggs, options-of, allow-deordering-top, looks-of}
+use Rattle.plan.specs.declared.rules.Around.{Around}
 use Rattle.plan.specs.Visit as Visit
 use Rattle.storage.proofs.Laws.{length-arena}
 use Rattle.claims.proofs.Counts.{mem-at}
@@ -24,7 +25,7 @@ use Rattle.expr.specs.State.{State, eos-of, Falls, Formed}
 use Rattle.simplify_ordering.specs.declared.looks.Looked.{Looked}
 use Rattle.node_rules.specs.declared.steps.Entries.{Entries}
 use Rattle.simplify_ordering.specs.Arena.{Arena-held}
-use Rattle.node_rules.specs.Held.{step-of, options-of, Is-list}
+use Rattle.node_rules.specs.Held.{Is-list}
 use Rattle.simplify_ordering.specs.Looks.{first, second, Lists-ask, Lists-give, Listed, Looks-give}
 
 falls-below : (n : ℕ) (xs : List ℕ) → ((q : ℕ) → List·Memᴰ q xs → q < n) → Falls n xs
@@ -127,23 +128,19 @@ module _ (s : Step) (es : List Expr) (k : ℕ) (kind : k ≡ ir-number (s .kind)
 pub same-step : (ps : List Step) (i : ℕ) → ps ≡ set ps i (with-aggs (step-at ps i .aggs) (step-at ps i))
 same-step ps i = sym (set-getD ps i no-step)
 
-pub allow-reads : (s : Step) (e : Visit.Around) → allow-deordering-top (step-of (options-of s)) e ≡ allow-deordering-top s e
-unfolding allow-deordering-top
-allow-reads s e = rw length-replicate
-
 -- there is room for the Implodes
-pub start-room : (s : Step) (e : Visit.Around) (es : List Expr) (looks : ℕ) → Listed (looks-of s e es looks) → length (with-implodes s es .1) ≤ 128
+pub start-room : (s : Step) (e : Around) (es : List Expr) (looks : ℕ) → Listed (looks-of s e es looks) → length (with-implodes s es .1) ≤ 128
 unfolding looks-of
 start-room s e es looks l = l .room
 
 -- es is the arena before the Implodes, ps are the steps; with them they are those of recs, line, off and of steps
-module _ (ps : List Step) (i n : ℕ) (e : Visit.Around) (es : List Expr) (tally : Tally) (steps recs line : List ℕ) (off : List Bool) (m : ℕ)
+module _ (ps : List Step) (i n : ℕ) (e : Around) (es : List Expr) (tally : Tally) (steps recs line : List ℕ) (off : List Bool) (m : ℕ)
     (here : i < length ps) (listed : Listed (looks-of (step-at ps i) e es (tally .looks)))
     (arena-is : arena-of recs line off m ≡ with-implodes (step-at ps i) es .1)
     (steps-are : stored-steps steps n ≡ set ps i (with-aggs (with-implodes (step-at ps i) es .0) (step-at ps i)))
     (held : Arena-held recs line off m) (steps-held : Steps-held steps n)
     (exprs aggs : Entries) (exprs-are : Is-list (step-at (stored-steps steps n) i .exprs) exprs) (aggs-are : Is-list (step-at (stored-steps steps n) i .aggs) aggs)
-    (allow : Bool) (allow-is : allow ≡ allow-deordering-top (step-of (options-of (step-at ps i))) e) where
+    (allow : Bool) (allow-is : allow ≡ allow-deordering-top (options-of (step-at ps i)) e) where
   abbrev s : Step
   s = step-at ps i
 
@@ -159,16 +156,13 @@ module _ (ps : List Step) (i n : ℕ) (e : Visit.Around) (es : List Expr) (tally
   ys-are : take (aggs .count) (aggs .nodes) ≡ with-implodes s es .0
   ys-are = aggs-are .is ∙ ap (λ (x : Step). x .aggs) step-now
 
-  allowed : allow ≡ allow-deordering-top s e
-  allowed = allow-is ∙ allow-reads s e
-
   length-now : length (with-implodes s es .1) ≡ m
   length-now = ap length (sym arena-is) ∙ length-arena recs line off m
 
   pub lists-asked : Lists-ask recs line off m (tally .looks) (take (exprs .count) (exprs .nodes)) (take (aggs .count) (aggs .nodes)) exprs aggs allow
   unfolding looks-of
   lists-asked =
-      rw (xs-are, ys-are, allowed)
+      rw (xs-are, ys-are, allow-is)
       (record {
         arena = held;
         exprs-are = record { is = xs-are; few = exprs-are .few; room = exprs-are .room };
@@ -184,7 +178,7 @@ module _ (ps : List Step) (i n : ℕ) (e : Visit.Around) (es : List Expr) (tally
       → Looks-give l i n ps steps recs line′ off′ r
   unfolding looks-of
   looks-given line′ off′ r h₀ =
-      let h = rw (xs-are, ys-are, allowed) at h₀ in
+      let h = rw (xs-are, ys-are, allow-is) at h₀ in
       record {
         arena = ap (arena-of recs line′ off′) (h .exprs-kept) ∙ (rw arena-is at (h .arena));
         held = subst (Arena-held recs line′ off′) (sym (h .exprs-kept)) (h .held);

@@ -15,20 +15,20 @@ use Rattle.plan.specs.Kinds.{same-ir}
 use Rattle.plan.specs.Lists.{yes?}
 use Rattle.plan.specs.Sheet.{Expr, Step, no-step, refused, done, step-at}
 use Rattle.plan.specs.Graph.{Edge}
-use Rattle.plan.specs.Visit.{Run, Around, Observable, Looked, around, looks-of, looked-in, rule, ruling, refusal-in, settled, settle, goes, unlink-node, one-visit, simplify-ir-node-orders}
+use Rattle.plan.specs.Visit.{Run, Looked, around, options-of, with-options, looks-of, looked-in, rule, ruling, refusal-in, settled, settle, goes, unlink-node, one-visit, simplify-ir-node-orders}
 use Rattle.plan.specs.Visit as Visit
 use Rattle.plan.specs.Visit.{no-edge}
 use Rattle.storage.proofs.Laws.{length-table, table-at, length-steps}
 use Rattle.tally.specs.declared.Tally.{Tally}
-use Rattle.node_rules.specs.declared.around.Around as code
-use Rattle.node_rules.specs.declared.rules.Options.{Options}
-use Rattle.node_rules.specs.Held.{around-of, options-of, Unlinked, Unlinkable, Edges-held, held-edge, held-edges}
+use Rattle.plan.specs.declared.rules.Options.{Options}
+use Rattle.plan.specs.declared.rules.Around.{Around}
+use Rattle.plan.specs.declared.rules.Observable.{Observable}
+use Rattle.node_rules.specs.Held.{Unlinked, Unlinkable, Edges-held, held-edge, held-edges}
 use Rattle.simplify_ordering.specs.Looks.{Listed}
 use Rattle.simplify_ordering.specs.Run.{run-of, Run-held, refusal-number, Ruled-by, Settle-asks}
 use Rattle.node_rules.proofs.StepLaws.{its-n1}
 use Rattle.node_rules.proofs.UnlinkLaws.{first-input}
 use Rattle.claims.proofs.Stays.{goes-sort}
-use Rattle.claims.proofs.Visitables.{merge-unimploded}
 use Rattle.claims.proofs.Counts.{true-of}
 use Rattle.simplify_ordering.proofs.ImplodesLaws.{longer-start}
 use Rattle.claims.specs.Visitable.{Visitable}
@@ -53,13 +53,8 @@ module _ (es : List Expr) (ps : List Step) (ds : List Edge) (n : ℕ) (visits lo
     unfolding looks-of
     options-now = rw step-now
 
-    pub merges-now : (step-at ps n .kind ≡ IR.MergeSorted → (step-at ps n .exprs ≡ []) × (step-at ps n .aggs ≡ []))
-        → step-at ps₁ n .kind ≡ IR.MergeSorted → (step-at ps₁ n .exprs ≡ []) × (step-at ps₁ n .aggs ≡ [])
-    unfolding looks-of
-    merges-now h = rw step-now (λ k. (h k .0, merge-unimploded (step-at ps n) es k ∙ h k .1))
-
     -- o is what was observed, k the number that the code gave
-    module _ (o : Observable) (seen : o ≡ l .observable) (k : ℕ) (number : k ≡ refusal-number (step-at ps₁ n) o) (back removed : List ℕ) where
+    module _ (o : Observable) (seen : o ≡ l .observable) (k : ℕ) (number : k ≡ refusal-number (options-of (step-at ps₁ n)) o) (back removed : List ℕ) where
       number-is : k ≡ refusal-in n (state es ps ds back removed visits looks)
       unfolding refusal-in looked-in
       number-is = number ∙ rw (step-now, seen)
@@ -73,15 +68,16 @@ module _ (es : List Expr) (ps : List Step) (ds : List Edge) (n : ℕ) (visits lo
           → settle n (state es ps ds back removed visits looks) ≡ done (state es₂ ps₂ ds₂ (n ∷ back) removed visits₂ looks₂)
       unfolding settle settled ruling looked-in
       settle-done h ps₂ ds₂ es₂ visits₂ looks₂ arena-is visits-are looks-are ruled =
-          let steps-then : ps₂ ≡ set ps n (rule (l .step) (around n ds) (l .observable) (l .step .kind) .0) =
-          ruled .steps ∙ ap (λ (x : List Step). set x n (rule (step-at ps₁ n) (around n ds) o (step-at ps₁ n .kind) .0)) steps-are
-          ∙ set-set ps n (l .step) (rule (step-at ps₁ n) (around n ds) o (step-at ps₁ n .kind) .0) ∙ rw (step-now, seen) in
-          let edges-then : ds₂ ≡ map (Visit.loosened n (rule (l .step) (around n ds) (l .observable) (l .step .kind) .1)) ds =
+          let then : Step → Step = λ s. with-options (rule (options-of s) (around n ds) o .options) s in
+          let steps-then : ps₂ ≡ set ps n (with-options (rule (options-of (l .step)) (around n ds) (l .observable) .options) (l .step)) =
+          ruled .steps ∙ ap (λ (x : List Step). set x n (then (step-at ps₁ n))) steps-are
+          ∙ set-set ps n (l .step) (then (step-at ps₁ n)) ∙ rw (step-now, seen) in
+          let edges-then : ds₂ ≡ map (Visit.loosened n (rule (options-of (l .step)) (around n ds) (l .observable) .loosened)) ds =
           ruled .edges ∙ rw (step-now, seen) in
           rw (← number-is, eq-eqb k 0 h, steps-then, edges-then, arena-is, visits-are, looks-are)
 
 -- what the code's test reads, of its own records
-pub tests-read : (ps : List Step) (ds : List Edge) (n : ℕ) (s : Options) (e : code.Around) → s ≡ options-of (step-at ps n) → around-of e ≡ around n ds
+pub tests-read : (ps : List Step) (ds : List Edge) (n : ℕ) (s : Options) (e : Around) → s ≡ options-of (step-at ps n) → e ≡ around n ds
     → (g : Bool) → g ≡ (same-ir (s .kind) IR.Sort && e .out && not (yes? (s .b)))
     → g ≡ (same-ir (step-at ps n .kind) IR.Sort && around n ds .out && not (yes? (step-at ps n .b)))
 tests-read ps ds n s e p q g t =
@@ -131,7 +127,6 @@ settle-asked n r r′ v i =
             between = v .between;
             end = v .looks;
           };
-      merges = v .merges;
     })
 
 module _ (recs line : List ℕ) (off : List Bool) (m : ℕ) (steps : List ℕ) (n : ℕ) (consumer slot producer : List ℕ) (unordered : List Bool) (edges : ℕ) (tally : Tally)

@@ -66,7 +66,6 @@ visitable-apart n r r′ a s e v l k =
       consumers = rw (s, e) (k .consumers);
       slots = rw (s, e) (k .slots);
       input = rw (s, e) (k .input);
-      merges = rw s (k .merges);
     }
 
 -- ns are all places of the walk, `rest` those that are left; w is the walk as it set out, r as it is now, and `pushed` the places

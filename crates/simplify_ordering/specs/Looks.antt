@@ -14,7 +14,7 @@ use Rattle.tally.specs.declared.Tally.{Tally}
 use Rattle.simplify_ordering.specs.declared.looks.Looked.{Looked}
 use Rattle.node_rules.specs.declared.steps.Entries.{Entries}
 use Rattle.simplify_ordering.specs.Arena.{Arena-held}
-use Rattle.node_rules.specs.Held.{observable-of, Is-list}
+use Rattle.node_rules.specs.Held.{Is-list}
 
 -- The two lists xs and ys, from an arena and a tally -----------------------------------------------------------------------------------
 
@@ -60,5 +60,5 @@ pub record Looks-give (l : Visit.Looked) (i n : ℕ) (ps : List Step) (steps rec
   pub held : Arena-held recs line off (r .exprs)
   pub steps-are : stored-steps steps n ≡ set ps i (l .step)
   pub steps-held : Steps-held steps n
-  pub observable : observable-of (r .observable) ≡ l .observable
+  pub observable : r .observable ≡ l .observable
   pub looks : r .tally .looks ≡ l .end .looks

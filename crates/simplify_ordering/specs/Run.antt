@@ -2,15 +2,16 @@
 use mathlib.Core.Path.{_≡_}
 use Prim.Native.Nat.{ℕ, _≤_, _<_}
 use mathlib.Core.Bool.{Bool}
-use mathlib.Core.List.{List, [], _∷_, map, List·Memᴰ}
+use mathlib.Core.List.{List, _∷_, map, List·Memᴰ}
 use lib.ListN.{length, set}
-use Rattle.plan.specs.declared.ir.IR.{IR}
+use Rattle.plan.specs.declared.rules.Options.{Options}
+use Rattle.plan.specs.declared.rules.Around.{Around}
+use Rattle.plan.specs.declared.rules.Observable.{Observable}
 use Rattle.plan.specs.Lists.{if_then_else_}
 use Rattle.plan.specs.Sheet.{Step, Outcome, refused, done, step-at}
 use Rattle.plan.specs.Graph.{Edge}
 use Rattle.storage.specs.Stored.{arena-of, stored-steps, Steps-held}
-use Rattle.plan.specs.Visit.{Run, rule, loosened, join-fails, sink-fails, looked-in}
-use Rattle.plan.specs.Visit as Visit
+use Rattle.plan.specs.Visit.{Run, options-of, with-options, rule, loosened, join-fails, sink-fails, looked-in}
 use Rattle.tally.specs.declared.Tally.{Tally}
 use Rattle.simplify_ordering.specs.declared.visit.Visit.{Visit}
 use Rattle.simplify_ordering.specs.declared.visit.Visited.{Visited}
@@ -42,13 +43,13 @@ pub record Run-held (recs line : List ℕ) (off : List Bool) (m : ℕ) (steps : 
 -- A step settled by its rule, its looks made ---------------------------------------------------------------------------------------
 
 -- 10, 11, or 0 for neither
-abbrev pub refusal-number : Step → Visit.Observable → ℕ
+abbrev pub refusal-number : Options → Observable → ℕ
 refusal-number s o = if join-fails s o then 10 else if sink-fails s o then 11 else 0
 
 -- ps and ds are the steps and the edges before, ps′ and ds′ those after
-pub record Ruled-by (n : ℕ) (e : Visit.Around) (o : Visit.Observable) (ps : List Step) (ds : List Edge) (ps′ : List Step) (ds′ : List Edge) : Type 0 where
-  pub steps : ps′ ≡ set ps n (rule (step-at ps n) e o (step-at ps n .kind) .0)
-  pub edges : ds′ ≡ map (loosened n (rule (step-at ps n) e o (step-at ps n .kind) .1)) ds
+pub record Ruled-by (n : ℕ) (e : Around) (o : Observable) (ps : List Step) (ds : List Edge) (ps′ : List Step) (ds′ : List Edge) : Type 0 where
+  pub steps : ps′ ≡ set ps n (with-options (rule (options-of (step-at ps n)) e o .options) (step-at ps n))
+  pub edges : ds′ ≡ map (loosened n (rule (options-of (step-at ps n)) e o .loosened)) ds
 
 -- The answer of a visit ---------------------------------------------------------------------------------------------------------------
 
@@ -62,4 +63,3 @@ visited-of (Visited.Refused k) n after back removed = refused k
 pub record Settle-asks (n : ℕ) (r : Run) : Type 0 where
   pub aggs : (q : ℕ) → List·Memᴰ q (step-at (r .steps) n .aggs) → q < length (r .arena)
   pub listed : Listed (looked-in n r)
-  pub merges : step-at (r .steps) n .kind ≡ IR.MergeSorted → (step-at (r .steps) n .exprs ≡ []) × (step-at (r .steps) n .aggs ≡ [])

@@ -5,21 +5,20 @@ ghost use Prim.Native.Nat.{ℕ, _≤_, _<_};
 ghost use lib.ListN.{length, set, take};
 ghost use Rattle.plan.specs.Sheet.{step-at};
 ghost use Rattle.storage.specs.Stored.{arena-of, stored-steps, Steps-held};
-ghost use Rattle.plan.specs.Visit.{with-implodes, with-aggs, looks-of};
+ghost use Rattle.plan.specs.Visit.{with-implodes, with-aggs, looks-of, options-of};
 ghost use Rattle.simplify_ordering.specs.Arena.{Arena-held};
-ghost use Rattle.node_rules.specs.Held.{around-of, options-of};
 ghost use Rattle.simplify_ordering.specs.Looks.{Lists-ask, Lists-give, Listed, Looks-give};
 use crate::implode::append_implodes;
 use expr::projected::expr_order_simplifier;
 use expr::projected::simplify_projected_exprs;
-use node_rules::around::Around;
-use node_rules::rules::Observable;
-use node_rules::rules::Options;
 use node_rules::rules::allow_deordering_top;
 use node_rules::steps::Entries;
 use node_rules::steps::aggs_of;
 use node_rules::steps::exprs_of;
 use plan::ir::IR;
+use plan::rules::Around;
+use plan::rules::Observable;
+use plan::rules::Options;
 use tally::Tally;
 
 // What was observed, the tally afterwards, and how many records the arena has.
@@ -105,8 +104,8 @@ pub fn looks_of(
     requires { ⌜ Steps-held (now steps) «n_steps» × (i < «n_steps») ⌝ }
     requires { ⌜ Arena-held (now recs) (now line) (now off) n × (s ≡ options-of (step-at (stored-steps (now steps) «n_steps») i)) ⌝ }
     requires { ⌜ ((q : ℕ) → List·Memᴰ q (step-at (stored-steps (now steps) «n_steps») i .aggs) → q < n) ⌝ }
-    requires { ⌜ Listed (looks-of (step-at (stored-steps (now steps) «n_steps») i) (around-of e) (arena-of (now recs) (now line) (now off) n) (tally .looks)) ⌝ }
-    ensures { λ r. ⌜ Looks-give (looks-of (step-at (stored-steps (now (steps .entry)) «n_steps») i) (around-of e) (arena-of (now (recs .entry)) (now (line .entry)) (now (off .entry)) n) (tally .looks)) i «n_steps» (stored-steps (now (steps .entry)) «n_steps») (now (steps .exit)) (now (recs .exit)) (now (line .exit)) (now (off .exit)) r ⌝ }
+    requires { ⌜ Listed (looks-of (step-at (stored-steps (now steps) «n_steps») i) e (arena-of (now recs) (now line) (now off) n) (tally .looks)) ⌝ }
+    ensures { λ r. ⌜ Looks-give (looks-of (step-at (stored-steps (now (steps .entry)) «n_steps») i) e (arena-of (now (recs .entry)) (now (line .entry)) (now (off .entry)) n) (tally .looks)) i «n_steps» (stored-steps (now (steps .entry)) «n_steps») (now (steps .exit)) (now (recs .exit)) (now (line .exit)) (now (off .exit)) r ⌝ }
     ensures { λ r. ⌜ r .tally .visits ≡ tally .visits ⌝ }
 {
     let kind = s.kind;

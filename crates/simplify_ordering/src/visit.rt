@@ -9,21 +9,21 @@ ghost use Rattle.plan.specs.declared.ir.IR.{IR};
 ghost use Rattle.plan.specs.Lists.{yes?};
 ghost use Rattle.plan.specs.Sheet.{step-at};
 ghost use Rattle.storage.specs.Stored.{stored-steps, Steps-held};
-ghost use Rattle.plan.specs.Visit.{around, settle, simplify-ir-node-orders};
+ghost use Rattle.plan.specs.Visit.{options-of, around, settle, simplify-ir-node-orders};
 ghost use Rattle.claims.specs.Visitable.{Visitable};
-ghost use Rattle.node_rules.specs.Held.{held-edges, around-of, observable-of, options-of};
+ghost use Rattle.node_rules.specs.Held.{held-edges};
 ghost use Rattle.simplify_ordering.specs.Run.{run-of, Run-held, refusal-number, Ruled-by, visited-of, Settle-asks};
 use crate::looks::looks_of;
-use node_rules::around::Around;
 use node_rules::around::around_step;
 use node_rules::loosen::loosen_edges;
-use node_rules::rules::Observable;
-use node_rules::rules::Options;
 use node_rules::rules::refusal_of;
 use node_rules::rules::rule_of;
 use node_rules::steps::options_of;
 use node_rules::store::store_options;
 use node_rules::unlink::unlink_node;
+use plan::rules::Around;
+use plan::rules::Observable;
+use plan::rules::Options;
 use tally::Tally;
 use tally::visited;
 
@@ -57,9 +57,8 @@ fn settle_by_rule(
 ) -> u8
     requires { ⌜ Steps-held (now steps) «n_steps» × (n < «n_steps») × (s ≡ options-of (step-at (stored-steps (now steps) «n_steps») n)) ⌝ }
     requires { ⌜ (edges ≤ 256) × (length (now unordered) ≡ 256) ⌝ }
-    requires { ⌜ (step-at (stored-steps (now steps) «n_steps») n .kind ≡ IR.MergeSorted → (step-at (stored-steps (now steps) «n_steps») n .exprs ≡ []) × (step-at (stored-steps (now steps) «n_steps») n .aggs ≡ [])) ⌝ }
-    ensures { λ r. ⌜ r ≡ refusal-number (step-at (stored-steps (now (steps .entry)) «n_steps») n) (observable-of o) ⌝ }
-    ensures { λ r. ⌜ (r ≡ 0 → Ruled-by n (around-of e) (observable-of o) (stored-steps (now (steps .entry)) «n_steps») (held-edges (now (consumer .entry)) (now (slot .entry)) (now (producer .entry)) (now (unordered .entry)) edges) (stored-steps (now (steps .exit)) «n_steps») (held-edges (now (consumer .entry)) (now (slot .entry)) (now (producer .entry)) (now (unordered .exit)) edges)) ⌝ }
+    ensures { λ r. ⌜ r ≡ refusal-number (options-of (step-at (stored-steps (now (steps .entry)) «n_steps») n)) o ⌝ }
+    ensures { λ r. ⌜ (r ≡ 0 → Ruled-by n e o (stored-steps (now (steps .entry)) «n_steps») (held-edges (now (consumer .entry)) (now (slot .entry)) (now (producer .entry)) (now (unordered .entry)) edges) (stored-steps (now (steps .exit)) «n_steps») (held-edges (now (consumer .entry)) (now (slot .entry)) (now (producer .entry)) (now (unordered .exit)) edges)) ⌝ }
     ensures { λ r. ⌜ Steps-held (now (steps .exit)) «n_steps» × (length (now (unordered .exit)) ≡ 256) ⌝ }
 {
     let k = refusal_of(s, o);
@@ -67,18 +66,10 @@ fn settle_by_rule(
         return k;
     }
     let r = rule_of(s, e, o);
-    store_options(steps, n_steps, n as usize, r);
-    loosen_edges(
-        consumer,
-        slot,
-        producer,
-        unordered,
-        edges,
-        n,
-        r.in0,
-        r.in1,
-        r.out,
-    );
+    let options = r.options;
+    let l = r.loosened;
+    store_options(steps, n_steps, n as usize, options);
+    loosen_edges(consumer, slot, producer, unordered, edges, n, l);
     0
 }
 
@@ -101,7 +92,7 @@ fn settle(
     e: Around,
 ) -> Visit
     requires { ⌜ Run-held (now recs) (now line) (now off) exprs (now steps) «n_steps» (now producer) (now unordered) edges × (n < «n_steps») ⌝ }
-    requires { ⌜ (s ≡ options-of (step-at (stored-steps (now steps) «n_steps») n)) × (around-of e ≡ around n (held-edges (now consumer) (now slot) (now producer) (now unordered) edges)) ⌝ }
+    requires { ⌜ (s ≡ options-of (step-at (stored-steps (now steps) «n_steps») n)) × (e ≡ around n (held-edges (now consumer) (now slot) (now producer) (now unordered) edges)) ⌝ }
     requires { ⌜ Settle-asks n (run-of (now recs) (now line) (now off) exprs (now steps) «n_steps» (now consumer) (now slot) (now producer) (now unordered) edges [] [] tally) ⌝ }
     ensures { λ r. ⌜ ((back removed : List ℕ) → settle n (run-of (now (recs .entry)) (now (line .entry)) (now (off .entry)) exprs (now (steps .entry)) «n_steps» (now (consumer .entry)) (now (slot .entry)) (now (producer .entry)) (now (unordered .entry)) edges back removed tally) ≡ visited-of (r .visited) n (λ b d. run-of (now (recs .exit)) (now (line .exit)) (now (off .exit)) (r .exprs) (now (steps .exit)) «n_steps» (now (consumer .entry)) (now (slot .entry)) (now (producer .entry)) (now (unordered .exit)) edges b d (r .tally)) back removed) ⌝ }
     ensures { λ r. ⌜ Run-held (now (recs .exit)) (now (line .exit)) (now (off .exit)) (r .exprs) (now (steps .exit)) «n_steps» (now (producer .entry)) (now (unordered .exit)) edges ⌝ }

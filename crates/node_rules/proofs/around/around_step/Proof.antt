@@ -5,13 +5,13 @@ use native.Mathlib.Omega.{arith}
 use borrow.Author.Needs.{needs}
 use lib.ListN.{drop}
 use Rattle.plan.specs.Visit.{around}
-use Rattle.node_rules.specs.Held.{around-of, held-edges}
+use Rattle.node_rules.specs.Held.{held-edges}
 use Rattle.node_rules.proofs.EdgeLaws.{no-edge-yet, edge-turn}
 use Rattle.node_rules.proofs.around.around_step.Statement.{statement}
 use Rattle.node_rules.proofs.around.around_step.Tie as tie
 
 abbrev Inv-loop : tie.InvT-loop
-Inv-loop consumer slot producer unordered edges n e₀ k₀ e k = (k ≤ edges) × (around-of e ≡ around n (drop k (held-edges consumer slot producer unordered edges)))
+Inv-loop consumer slot producer unordered edges n e₀ k₀ e k = (k ≤ edges) × (e ≡ around n (drop k (held-edges consumer slot producer unordered edges)))
 
 abbrev μ-loop : tie.MeasureT-loop
 μ-loop consumer slot producer unordered edges n e₀ k₀ e k = k

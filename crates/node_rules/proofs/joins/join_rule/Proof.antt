@@ -12,11 +12,14 @@ of-number-requires c κs = search needs
 number-requires : tie.Need-number-requires
 number-requires c κs = search needs
 
+ruled-requires : tie.Need-ruled-requires
+ruled-requires c κs = search needs
+
 returns : tie.Need-returns
 returns c =
-    let how : join-type-number (join-type (c .before .before .before .before .before .args .s .a)) ≡ 3 =
-    rw (← c .before .before .before .before .of-number .ensures, ← c .before .before .before .number .ensures) (c .before .before .if1 .taken) in
-    rw (eq-eqb _ _ how)
+    let how : join-type-number (join-type (c .before .before .before .before .before .before .args .s .a)) ≡ 3 =
+    rw (← c .before .before .before .before .before .of-number .ensures, ← c .before .before .before .before .number .ensures) (c .before .before .before .if1 .taken) in
+    rw (c .ruled .ensures, eq-eqb _ _ how)
 
 of-number-requires-2 : tie.Need-of-number-requires-2
 of-number-requires-2 c κs = search needs
@@ -48,23 +51,27 @@ kept-sides-requires-3 c κs = search needs
 number-requires-5 : tie.Need-number-requires-5
 number-requires-5 c κs = search needs
 
+ruled-requires-2 : tie.Need-ruled-requires-2
+ruled-requires-2 c κs = search needs
+
 returns-2 : tie.Need-returns-2
 returns-2 c =
-    let how : join-type-number (join-type (c .before .before .before .before .before .before .before .before .before .before .before .before .before .before .before .before .args .s .a)) ≢ 3 =
-    rw (← c .before .before .before .before .before .before .before .before .before .before .before .before .before .before .before .of-number .ensures, ← c .before .before .before .before .before .before .before .before .before .before .before .before .before .before .number .ensures) (c .before .before .before .before .before .before .before .before .before .before .before .before .before .if1 .left) in
+    let how : join-type-number (join-type (c .before .before .before .before .before .before .before .before .before .before .before .before .before .before .before .before .before .args .s .a)) ≢ 3 =
+    rw (← c .before .before .before .before .before .before .before .before .before .before .before .before .before .before .before .before .of-number .ensures, ← c .before .before .before .before .before .before .before .before .before .before .before .before .before .before .before .number .ensures) (c .before .before .before .before .before .before .before .before .before .before .before .before .before .before .if1 .left) in
     rw (
-      c .number5 .ensures,
-      c .before .kept-sides3 .ensures,
-      c .before .before .without-right .ensures,
-      c .before .before .before .number4 .ensures,
-      c .before .before .before .before .before .kept-sides2 .ensures,
-      c .before .before .before .before .before .before .without-left .ensures,
-      c .before .before .before .before .before .before .before .number3 .ensures,
-      c .before .before .before .before .before .before .before .before .before .kept-sides .ensures,
-      c .before .before .before .before .before .before .before .before .before .before .before .number2 .ensures,
-      c .before .before .before .before .before .before .before .before .before .before .before .before .of-number2 .ensures,
-      c .before .before .before .before .before .before .before .before .before .before .before .before .before .before .number .ensures,
-      c .before .before .before .before .before .before .before .before .before .before .before .before .before .before .before .of-number .ensures,
+      c .ruled2 .ensures,
+      c .before .number5 .ensures,
+      c .before .before .kept-sides3 .ensures,
+      c .before .before .before .without-right .ensures,
+      c .before .before .before .before .number4 .ensures,
+      c .before .before .before .before .before .before .kept-sides2 .ensures,
+      c .before .before .before .before .before .before .before .without-left .ensures,
+      c .before .before .before .before .before .before .before .before .number3 .ensures,
+      c .before .before .before .before .before .before .before .before .before .before .kept-sides .ensures,
+      c .before .before .before .before .before .before .before .before .before .before .before .before .number2 .ensures,
+      c .before .before .before .before .before .before .before .before .before .before .before .before .before .of-number2 .ensures,
+      c .before .before .before .before .before .before .before .before .before .before .before .before .before .before .before .number .ensures,
+      c .before .before .before .before .before .before .before .before .before .before .before .before .before .before .before .before .of-number .ensures,
       ne-eqb _ _ how,
     )
 
@@ -74,6 +81,7 @@ join-rule-spec =
     (tie.spec
     of-number-requires
     number-requires
+    ruled-requires
     returns
     of-number-requires-2
     number-requires-2
@@ -85,4 +93,5 @@ join-rule-spec =
     without-right-requires
     kept-sides-requires-3
     number-requires-5
+    ruled-requires-2
     returns-2)

@@ -11,14 +11,14 @@ use Rattle.node_rules.proofs.loosen.loosen_edges.Statement.{statement}
 use Rattle.node_rules.proofs.loosen.loosen_edges.Tie as tie
 
 abbrev Inv-loop : tie.InvT-loop
-Inv-loop consumer slot producer unordered₀ edges n in0 in1 out i₀ unordered i =
-    (i ≤ edges) × (length unordered ≡ 256) × Changed false (mark-at consumer slot producer unordered₀ n in0 in1 out) unordered₀ unordered i
+Inv-loop consumer slot producer unordered₀ edges n l i₀ unordered i =
+    (i ≤ edges) × (length unordered ≡ 256) × Changed false (mark-at consumer slot producer unordered₀ n l) unordered₀ unordered i
 
 abbrev μ-loop : tie.MeasureT-loop
-μ-loop consumer slot producer unordered₀ edges n in0 in1 out i₀ unordered i = edges - i
+μ-loop consumer slot producer unordered₀ edges n l i₀ unordered i = edges - i
 
 loop-holds : tie.Need-loop-holds Inv-loop μ-loop
-loop-holds c = (omega arith, c .pre .2, none-changed false (mark-at (now (c .args .consumer)) (now (c .args .slot)) (now (c .args .producer)) (now (c .args .unordered)) (c .args .n) (c .args .in0) (c .args .in1) (c .args .out)) (now (c .args .unordered)))
+loop-holds c = (omega arith, c .pre .2, none-changed false (mark-at (now (c .args .consumer)) (now (c .args .slot)) (now (c .args .producer)) (now (c .args .unordered)) (c .args .n) (c .args .l)) (now (c .args .unordered)))
 
 element-copy-out-u : tie.Need-element-copy-out-u Inv-loop μ-loop
 element-copy-out-u c = search needs
@@ -48,13 +48,13 @@ loop-again : tie.Need-loop-again Inv-loop μ-loop
 loop-again c = (
   omega arith,
   simp length-set (omega arith),
-  one-changed false (mark-at (now (c .before .before .before .before .before .before .before .args .consumer)) (now (c .before .before .before .before .before .before .before .args .slot)) (now (c .before .before .before .before .before .before .before .args .producer)) (now (c .before .before .before .before .before .before .before .args .unordered)) (c .before .before .before .before .before .before .before .args .n) (c .before .before .before .before .before .before .before .args .in0) (c .before .before .before .before .before .before .before .args .in1) (c .before .before .before .before .before .before .before .args .out)) (now (c .before .before .before .before .before .before .before .args .unordered)) (c .before .before .before .before .before .before .loop .unordered) (c .before .before .before .before .before .before .loop .i) (c .marked .result) (omega arith)
+  one-changed false (mark-at (now (c .before .before .before .before .before .before .before .args .consumer)) (now (c .before .before .before .before .before .before .before .args .slot)) (now (c .before .before .before .before .before .before .before .args .producer)) (now (c .before .before .before .before .before .before .before .args .unordered)) (c .before .before .before .before .before .before .before .args .n) (c .before .before .before .before .before .before .before .args .l)) (now (c .before .before .before .before .before .before .before .args .unordered)) (c .before .before .before .before .before .before .loop .unordered) (c .before .before .before .before .before .before .loop .i) (c .marked .result) (omega arith)
       (rw (c .before .before .before .before .before .before .loop .inv .2 .rest (c .before .before .before .before .before .before .loop .i) (le-refl _)) at (c .marked .ensures)) (c .before .before .before .before .before .before .loop .inv .2),
 )
 
 returns : tie.Need-returns Inv-loop μ-loop
 returns c = (
-  all-loosened (now (c .before .before .args .consumer)) (now (c .before .before .args .slot)) (now (c .before .before .args .producer)) (now (c .before .before .args .unordered)) (c .before .before .args .n) (c .before .before .args .in0) (c .before .before .args .in1) (c .before .before .args .out) (omega arith) (c .before .loop .unordered) (c .before .before .args .edges) (c .before .loop .i) (c .loop-test .left) (c .before .loop .inv .2),
+  all-loosened (now (c .before .before .args .consumer)) (now (c .before .before .args .slot)) (now (c .before .before .args .producer)) (now (c .before .before .args .unordered)) (c .before .before .args .n) (c .before .before .args .l) (omega arith) (c .before .loop .unordered) (c .before .before .args .edges) (c .before .loop .i) (c .loop-test .left) (c .before .loop .inv .2),
   c .before .loop .inv .1,
 )
 

@@ -1,5 +1,4 @@
 use borrow.Author.Tests.{eq-eqb, ne-eqb}
-use lib.ListN.{length-replicate}
 use Rattle.plan.specs.Kinds.{ir-number}
 use Rattle.plan.specs.Visit.{allow-deordering-top}
 use borrow.Author.Needs.{needs}
@@ -15,7 +14,7 @@ returns c = simp (allow-deordering-top, eq-eqb (ir-number (c .before .before .ar
 
 returns-2 : tie.Need-returns-2
 unfolding allow-deordering-top
-returns-2 c = simp (allow-deordering-top, length-replicate, ne-eqb (ir-number (c .before .before .before .before .before .before .args .s .kind)) 3 (rw (← c .before .before .before .before .before .number .ensures) (c .before .before .before .before .if1 .left)), eq-eqb (ir-number (c .before .before .before .before .before .before .args .s .kind)) 4 (rw (← c .before .before .before .before .before .number .ensures) (c .before .before .before .if2 .taken)))
+returns-2 c = simp (allow-deordering-top, ne-eqb (ir-number (c .before .before .before .before .before .before .args .s .kind)) 3 (rw (← c .before .before .before .before .before .number .ensures) (c .before .before .before .before .if1 .left)), eq-eqb (ir-number (c .before .before .before .before .before .before .args .s .kind)) 4 (rw (← c .before .before .before .before .before .number .ensures) (c .before .before .before .if2 .taken)))
 
 returns-3 : tie.Need-returns-3
 unfolding allow-deordering-top

@@ -1,26 +1,36 @@
-use Rattle.plan.specs.Visit.{rule}
+use Rattle.plan.specs.Visit.{arm}
 use borrow.Author.Needs.{needs}
 use Rattle.node_rules.proofs.rules.distinct_rule.Statement.{statement}
 use Rattle.node_rules.proofs.rules.distinct_rule.Tie as tie
 
+-- src/rules.rt:117:9
 of-number-requires : tie.Need-of-number-requires
 of-number-requires c κs = search needs
 
+-- src/rules.rt:118:9
 first-or-last-requires : tie.Need-first-or-last-requires
 first-or-last-requires c κs = search needs
 
+-- src/rules.rt:121:9
 any-if-requires : tie.Need-any-if-requires
 any-if-requires c κs = search needs
 
+-- src/rules.rt:124:12
 off-if-requires : tie.Need-off-if-requires
 off-if-requires c κs = search needs
 
+-- src/rules.rt:126:12
 number-requires : tie.Need-number-requires
 number-requires c κs = search needs
 
+-- src/rules.rt:129:5
+ruled-requires : tie.Need-ruled-requires
+ruled-requires c κs = search needs
+
+-- src/rules.rt:113:1
 returns : tie.Need-returns
-unfolding rule
-returns c = rw (c .number .ensures, c .before .off-if .ensures, c .before .before .any-if .ensures, c .before .before .before .before .before .before .before .first-or-last .ensures, c .before .before .before .before .before .before .before .before .of-number .ensures)
+unfolding arm
+returns c = rw (c .ruled .ensures, c .before .number .ensures, c .before .before .off-if .ensures, c .before .before .before .any-if .ensures, c .before .before .before .before .before .before .before .before .first-or-last .ensures, c .before .before .before .before .before .before .before .before .before .of-number .ensures)
 
 pub distinct-rule-spec : {M : Type 1} → statement M
 distinct-rule-spec =
@@ -31,4 +41,5 @@ distinct-rule-spec =
     any-if-requires
     off-if-requires
     number-requires
+    ruled-requires
     returns)

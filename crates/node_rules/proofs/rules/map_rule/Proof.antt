@@ -14,11 +14,11 @@ observes-input-order-requires c κs = search needs
 is-order-producing-requires : tie.Need-is-order-producing-requires
 is-order-producing-requires c κs = search needs
 
-kept-requires : tie.Need-kept-requires
-kept-requires c κs = search needs
+ruled-requires : tie.Need-ruled-requires
+ruled-requires c κs = search needs
 
 returns : tie.Need-returns
-returns c = rw (c .kept .ensures, c .before .is-order-producing .ensures, c .before .before .before .before .observes-input-order .ensures, c .before .before .before .before .before .has-equal-order .ensures, c .before .before .before .before .before .before .of-number .ensures)
+returns c = rw (c .ruled .ensures, c .before .is-order-producing .ensures, c .before .before .before .before .observes-input-order .ensures, c .before .before .before .before .before .has-equal-order .ensures, c .before .before .before .before .before .before .of-number .ensures)
 
 pub map-rule-spec : {M : Type 1} → statement M
 map-rule-spec =
@@ -28,5 +28,5 @@ map-rule-spec =
     has-equal-order-requires
     observes-input-order-requires
     is-order-producing-requires
-    kept-requires
+    ruled-requires
     returns)

@@ -1,18 +1,25 @@
-use Rattle.plan.specs.Visit.{rule}
+use Rattle.plan.specs.Visit.{arm}
 use borrow.Author.Needs.{needs}
 use Rattle.node_rules.proofs.rules.merge_sorted_rule.Statement.{statement}
 use Rattle.node_rules.proofs.rules.merge_sorted_rule.Tie as tie
 
+-- src/rules.rt:157:9
+ruled-requires : tie.Need-ruled-requires
+ruled-requires c κs = search needs
+
+-- src/rules.rt:157:9
 returns : tie.Need-returns
-unfolding rule
-returns c = rw (c .if1 .taken, rule)
+unfolding arm
+returns c = rw (c .ruled .ensures, c .before .if1 .taken, arm)
 
-kept-requires : tie.Need-kept-requires
-kept-requires c κs = search needs
+-- src/rules.rt:159:5
+ruled-requires-2 : tie.Need-ruled-requires-2
+ruled-requires-2 c κs = search needs
 
+-- src/rules.rt:146:1
 returns-2 : tie.Need-returns-2
-unfolding rule
-returns-2 c = rw (c .kept .ensures, c .before .if1 .left, rule)
+unfolding arm
+returns-2 c = rw (c .ruled2 .ensures, c .before .if1 .left, arm)
 
 pub merge-sorted-rule-spec : {M : Type 1} → statement M
-merge-sorted-rule-spec = tie.close (tie.spec returns kept-requires returns-2)
+merge-sorted-rule-spec = tie.close (tie.spec ruled-requires returns ruled-requires-2 returns-2)

@@ -1,4 +1,4 @@
-use Rattle.plan.specs.Visit.{rule}
+use Rattle.plan.specs.Visit.{arm}
 use borrow.Author.Needs.{needs}
 use Rattle.node_rules.proofs.rules.rule_of.Statement.{statement}
 use Rattle.node_rules.proofs.rules.rule_of.Tie as tie
@@ -6,14 +6,14 @@ use Rattle.node_rules.proofs.rules.rule_of.Tie as tie
 enum-told : tie.Need-enum-told
 enum-told c = search needs
 
-kept-requires : tie.Need-kept-requires
-kept-requires c κs = search needs
+ruled-requires : tie.Need-ruled-requires
+ruled-requires c κs = search needs
 
 enum-told-2 : tie.Need-enum-told-2
 enum-told-2 c = search needs
 
-kept-requires-2 : tie.Need-kept-requires-2
-kept-requires-2 c κs = search needs
+ruled-requires-2 : tie.Need-ruled-requires-2
+ruled-requires-2 c κs = search needs
 
 enum-told-3 : tie.Need-enum-told-3
 enum-told-3 c = search needs
@@ -90,26 +90,26 @@ map-rule-requires c κs = search needs
 enum-told-15 : tie.Need-enum-told-15
 enum-told-15 c = search needs
 
-kept-requires-3 : tie.Need-kept-requires-3
-kept-requires-3 c κs = search needs
+ruled-requires-3 : tie.Need-ruled-requires-3
+ruled-requires-3 c κs = search needs
 
 enum-told-16 : tie.Need-enum-told-16
 enum-told-16 c = search needs
 
-kept-requires-4 : tie.Need-kept-requires-4
-kept-requires-4 c κs = search needs
+ruled-requires-4 : tie.Need-ruled-requires-4
+ruled-requires-4 c κs = search needs
 
 enum-told-17 : tie.Need-enum-told-17
 enum-told-17 c = search needs
 
-kept-requires-5 : tie.Need-kept-requires-5
-kept-requires-5 c κs = search needs
+ruled-requires-5 : tie.Need-ruled-requires-5
+ruled-requires-5 c κs = search needs
 
 enum-told-18 : tie.Need-enum-told-18
 enum-told-18 c = search needs
 
-kept-requires-6 : tie.Need-kept-requires-6
-kept-requires-6 c κs = search needs
+ruled-requires-6 : tie.Need-ruled-requires-6
+ruled-requires-6 c κs = search needs
 
 enum-told-19 : tie.Need-enum-told-19
 enum-told-19 c = search needs
@@ -118,79 +118,79 @@ cache-rule-requires : tie.Need-cache-rule-requires
 cache-rule-requires c κs = search needs
 
 returns : tie.Need-returns
-unfolding rule
-returns c = simp (c .kept .ensures, c .before .enum-told .given .1)
+unfolding arm
+returns c = simp (c .ruled .ensures, c .before .enum-told .given .1)
 
 returns-2 : tie.Need-returns-2
-unfolding rule
-returns-2 c = simp (c .kept2 .ensures, c .before .enum-told2 .given .1)
+unfolding arm
+returns-2 c = simp (c .ruled2 .ensures, c .before .enum-told2 .given .1)
 
 returns-3 : tie.Need-returns-3
-unfolding rule
+unfolding arm
 returns-3 c = simp (c .sink-rule .ensures, c .before .enum-told3 .given .1)
 
 returns-4 : tie.Need-returns-4
-unfolding rule
+unfolding arm
 returns-4 c = simp (c .select-rule .ensures, c .before .enum-told4 .given .1)
 
 returns-5 : tie.Need-returns-5
-unfolding rule
+unfolding arm
 returns-5 c = simp (c .select-rule2 .ensures, c .before .enum-told5 .given .1)
 
 returns-6 : tie.Need-returns-6
-unfolding rule
+unfolding arm
 returns-6 c = simp (c .sort-rule .ensures, c .before .enum-told6 .given .1)
 
 returns-7 : tie.Need-returns-7
-unfolding rule
+unfolding arm
 returns-7 c = simp (c .filter-rule .ensures, c .before .enum-told7 .given .1)
 
 returns-8 : tie.Need-returns-8
-unfolding rule
+unfolding arm
 returns-8 c = simp (c .group-by-rule .ensures, c .before .enum-told8 .given .1)
 
 returns-9 : tie.Need-returns-9
-unfolding rule
+unfolding arm
 returns-9 c = simp (c .distinct-rule .ensures, c .before .enum-told9 .given .1)
 
 returns-10 : tie.Need-returns-10
-unfolding rule
+unfolding arm
 returns-10 c = simp (c .join-rule .ensures, c .before .enum-told10 .given .1)
 
 returns-11 : tie.Need-returns-11
-unfolding rule
+unfolding arm
 returns-11 c = simp (c .gather-rule .ensures, c .before .enum-told11 .given .1)
 
 returns-12 : tie.Need-returns-12
-unfolding rule
+unfolding arm
 returns-12 c = simp (c .union-rule .ensures, c .before .enum-told12 .given .1)
 
 returns-13 : tie.Need-returns-13
-unfolding rule
+unfolding arm
 returns-13 c = simp (c .merge-sorted-rule .ensures, c .before .enum-told13 .given .1)
 
 returns-14 : tie.Need-returns-14
-unfolding rule
+unfolding arm
 returns-14 c = simp (c .map-rule .ensures, c .before .enum-told14 .given .1)
 
 returns-15 : tie.Need-returns-15
-unfolding rule
-returns-15 c = simp (c .kept3 .ensures, c .before .enum-told15 .given .1)
+unfolding arm
+returns-15 c = simp (c .ruled3 .ensures, c .before .enum-told15 .given .1)
 
 returns-16 : tie.Need-returns-16
-unfolding rule
-returns-16 c = simp (c .kept4 .ensures, c .before .enum-told16 .given .1)
+unfolding arm
+returns-16 c = simp (c .ruled4 .ensures, c .before .enum-told16 .given .1)
 
 returns-17 : tie.Need-returns-17
-unfolding rule
-returns-17 c = simp (c .kept5 .ensures, c .before .enum-told17 .given .1)
+unfolding arm
+returns-17 c = simp (c .ruled5 .ensures, c .before .enum-told17 .given .1)
 
 returns-18 : tie.Need-returns-18
-unfolding rule
-returns-18 c = simp (c .kept6 .ensures, c .before .before .before .enum-told18 .given .1)
+unfolding arm
+returns-18 c = simp (c .ruled6 .ensures, c .before .before .before .enum-told18 .given .1)
 
 returns-19 : tie.Need-returns-19
-unfolding rule
+unfolding arm
 returns-19 c = simp (c .cache-rule .ensures, c .before .enum-told19 .given .1)
 
 pub rule-of-spec : {M : Type 1} → statement M
@@ -198,9 +198,9 @@ rule-of-spec =
     tie.close
     (tie.spec
     enum-told
-    kept-requires
+    ruled-requires
     enum-told-2
-    kept-requires-2
+    ruled-requires-2
     enum-told-3
     sink-rule-requires
     enum-told-4
@@ -226,13 +226,13 @@ rule-of-spec =
     enum-told-14
     map-rule-requires
     enum-told-15
-    kept-requires-3
+    ruled-requires-3
     enum-told-16
-    kept-requires-4
+    ruled-requires-4
     enum-told-17
-    kept-requires-5
+    ruled-requires-5
     enum-told-18
-    kept-requires-6
+    ruled-requires-6
     enum-told-19
     cache-rule-requires
     returns

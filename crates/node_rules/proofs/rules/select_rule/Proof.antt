@@ -1,4 +1,3 @@
-use lib.ListN.{length-replicate}
 use borrow.Author.Needs.{needs}
 use Rattle.node_rules.proofs.rules.select_rule.Statement.{statement}
 use Rattle.node_rules.proofs.rules.select_rule.Tie as tie
@@ -6,11 +5,11 @@ use Rattle.node_rules.proofs.rules.select_rule.Tie as tie
 number-requires : tie.Need-number-requires
 number-requires c κs = search needs
 
-kept-requires : tie.Need-kept-requires
-kept-requires c κs = search needs
+ruled-requires : tie.Need-ruled-requires
+ruled-requires c κs = search needs
 
 returns : tie.Need-returns
-returns c = rw (c .kept .ensures, length-replicate, c .before .before .before .before .before .before .before .before .before .number .ensures)
+returns c = rw (c .ruled .ensures, c .before .before .before .before .before .before .before .before .before .number .ensures)
 
 pub select-rule-spec : {M : Type 1} → statement M
-select-rule-spec = tie.close (tie.spec number-requires kept-requires returns)
+select-rule-spec = tie.close (tie.spec number-requires ruled-requires returns)

@@ -33,7 +33,7 @@ element-write-steps-4 : tie.Need-element-write-steps-4
 element-write-steps-4 c = search needs
 
 returns : tie.Need-returns
-returns c = (options-law (now (c .before .args .steps)) (c .before .args .n) (c .before .args .i) (c .before .pre .0) (c .before .pre .1) (c .before .args .r) (c .number .result) (c .number .ensures) (rw (c .number .ensures) (ir-small (c .before .args .r .kind))), options-held (now (c .before .args .steps)) (c .before .args .n) (c .before .args .i) (c .before .pre .0) (c .before .pre .1) (c .before .args .r) (c .number .result) (c .number .ensures) (rw (c .number .ensures) (ir-small (c .before .args .r .kind))))
+returns c = (options-law (now (c .before .args .steps)) (c .before .args .n) (c .before .args .i) (c .before .pre .0) (c .before .pre .1) (c .before .args .o) (c .number .result) (c .number .ensures) (rw (c .number .ensures) (ir-small (c .before .args .o .kind))), options-held (now (c .before .args .steps)) (c .before .args .n) (c .before .args .i) (c .before .pre .0) (c .before .pre .1) (c .before .args .o) (c .number .result) (c .number .ensures) (rw (c .number .ensures) (ir-small (c .before .args .o .kind))))
 
 pub store-options-spec : {M : Type 1} → statement M
 store-options-spec =

@@ -1,6 +1,6 @@
-use Rattle.simplify_ordering.proofs.VisitLaws.{listed-of, options-now, merges-now, settle-refused, settle-done}
+use Rattle.simplify_ordering.proofs.VisitLaws.{listed-of, options-now, settle-refused, settle-done}
 use Rattle.simplify_ordering.specs.Run.{run-of}
-use Rattle.node_rules.specs.Held.{around-of, observable-of, held-edges}
+use Rattle.node_rules.specs.Held.{held-edges}
 use Rattle.storage.specs.Stored.{arena-of, stored-steps}
 use Rattle.storage.proofs.Laws.{length-steps, length-arena}
 use lib.ListN.{length}
@@ -17,7 +17,7 @@ looks-of-requires : tie.Need-looks-of-requires
 looks-of-requires c κs =
     let a = c .before .before .before .before .args in
     let r = run-of (now (a .recs)) (now (a .line)) (now (a .off)) (a .exprs) (now (a .steps)) (a .n-steps) (now (a .consumer)) (now (a .slot)) (now (a .producer)) (now (a .unordered)) (a .edges) [] [] (a .tally) in
-    ((c .before .before .before .before .pre .0 .0 .steps-held, c .before .before .before .before .pre .0 .1), ((c .before .before .before .before .pre .0 .0 .arena, c .before .before .before .before .pre .1 .0 .0), ((λ q m. omega (arith, c .before .before .before .before .pre .1 .1 .aggs q m, length-arena (now (a .recs)) (now (a .line)) (now (a .off)) (a .exprs))), listed-of (a .n) r (around-of (a .e)) (c .before .before .before .before .pre .1 .0 .1) (c .before .before .before .before .pre .1 .1 .listed))))
+    ((c .before .before .before .before .pre .0 .0 .steps-held, c .before .before .before .before .pre .0 .1), ((c .before .before .before .before .pre .0 .0 .arena, c .before .before .before .before .pre .1 .0 .0), ((λ q m. omega (arith, c .before .before .before .before .pre .1 .1 .aggs q m, length-arena (now (a .recs)) (now (a .line)) (now (a .off)) (a .exprs))), listed-of (a .n) r (a .e) (c .before .before .before .before .pre .1 .0 .1) (c .before .before .before .before .pre .1 .1 .listed))))
 
 -- src/visit.rt:104:9
 settle-by-rule-requires : tie.Need-settle-by-rule-requires
@@ -28,7 +28,7 @@ settle-by-rule-requires c κs =
     let es = arena-of (now (a .recs)) (now (a .line)) (now (a .off)) (a .exprs) in
     let here : a .n < length ps = omega (arith, c .before .before .before .before .before .before .before .before .before .pre .0 .1, length-steps (now (a .steps)) (a .n-steps)) in
     let g = rw (c .before .before .before .before .before .before .before .before .before .pre .1 .0 .1) at (c .before .before .before .before .looks-of .ensures .0) in
-    ((g .steps-held, c .before .before .before .before .before .before .before .before .before .pre .0 .1, c .before .before .before .before .before .before .before .before .before .pre .1 .0 .0 ∙ options-now es ps ds (a .n) (a .tally .visits) (a .tally .looks) here _ (g .steps-are)), ((c .before .before .before .before .before .before .before .before .before .pre .0 .0 .few, c .before .before .before .before .before .before .before .before .before .pre .0 .0 .marks), merges-now es ps ds (a .n) (a .tally .visits) (a .tally .looks) here _ (g .steps-are) (c .before .before .before .before .before .before .before .before .before .pre .1 .1 .merges)))
+    ((g .steps-held, c .before .before .before .before .before .before .before .before .before .pre .0 .1, c .before .before .before .before .before .before .before .before .before .pre .1 .0 .0 ∙ options-now es ps ds (a .n) (a .tally .visits) (a .tally .looks) here _ (g .steps-are)), ((c .before .before .before .before .before .before .before .before .before .pre .0 .0 .few, c .before .before .before .before .before .before .before .before .before .pre .0 .0 .marks)))
 
 -- src/visit.rt:108:9
 returns : tie.Need-returns
@@ -40,7 +40,7 @@ returns c =
     let here : a .n < length ps = omega (arith, c .before .before .before .before .before .before .before .before .before .before .before .pre .0 .1, length-steps (now (a .steps)) (a .n-steps)) in
     let g = rw (c .before .before .before .before .before .before .before .before .before .before .before .pre .1 .0 .1) at (c .before .before .before .before .before .before .looks-of .ensures .0) in
     let b = c .before .settle-by-rule in (
-      (λ back removed. settle-refused es ps ds (a .n) (a .tally .visits) (a .tally .looks) here _ (g .steps-are) (observable-of (c .before .before .before .before .before .before .looks-of .result .observable)) (g .observable) (b .result) (b .ensures .0) back removed (c .if1 .taken)),
+      (λ back removed. settle-refused es ps ds (a .n) (a .tally .visits) (a .tally .looks) here _ (g .steps-are) (c .before .before .before .before .before .before .looks-of .result .observable) (g .observable) (b .result) (b .ensures .0) back removed (c .if1 .taken)),
       record { arena = g .held; steps-held = b .ensures .1 .1 .0; few = c .before .before .before .before .before .before .before .before .before .before .before .pre .0 .0 .few; producers = c .before .before .before .before .before .before .before .before .before .before .before .pre .0 .0 .producers; marks = b .ensures .1 .1 .1 },
     )
 
@@ -54,7 +54,7 @@ returns-2 c =
     let here : a .n < length ps = omega (arith, c .before .before .before .before .before .before .before .before .before .before .before .pre .0 .1, length-steps (now (a .steps)) (a .n-steps)) in
     let g = rw (c .before .before .before .before .before .before .before .before .before .before .before .pre .1 .0 .1) at (c .before .before .before .before .before .before .looks-of .ensures .0) in
     let b = c .before .settle-by-rule in (
-      (λ back removed. settle-done es ps ds (a .n) (a .tally .visits) (a .tally .looks) here _ (g .steps-are) (observable-of (c .before .before .before .before .before .before .looks-of .result .observable)) (g .observable) (b .result) (b .ensures .0) back removed (c .if1 .left) _ _ _ _ _ (g .arena) (c .before .before .before .before .before .before .looks-of .ensures .1) (g .looks) (rw (c .before .before .before .before .before .before .before .before .before .before .before .pre .1 .0 .1) at (b .ensures .1 .0 (c .if1 .left)))),
+      (λ back removed. settle-done es ps ds (a .n) (a .tally .visits) (a .tally .looks) here _ (g .steps-are) (c .before .before .before .before .before .before .looks-of .result .observable) (g .observable) (b .result) (b .ensures .0) back removed (c .if1 .left) _ _ _ _ _ (g .arena) (c .before .before .before .before .before .before .looks-of .ensures .1) (g .looks) (rw (c .before .before .before .before .before .before .before .before .before .before .before .pre .1 .0 .1) at (b .ensures .1 .0 (c .if1 .left)))),
       record { arena = g .held; steps-held = b .ensures .1 .1 .0; few = c .before .before .before .before .before .before .before .before .before .before .before .pre .0 .0 .few; producers = c .before .before .before .before .before .before .before .before .before .before .before .pre .0 .0 .producers; marks = b .ensures .1 .1 .1 },
     )
 

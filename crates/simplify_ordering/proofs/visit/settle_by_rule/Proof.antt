@@ -1,10 +1,10 @@
-use Rattle.node_rules.proofs.RuleLaws.{ruled-is, loosened-is}
 use Rattle.simplify_ordering.specs.Run.{refusal-number}
-use Rattle.node_rules.specs.Held.{around-of, observable-of, step-of, ruled-of, held-edges}
-use Rattle.node_rules.specs.declared.rules.Options.{Options}
-use Rattle.plan.specs.Visit.{Loosened, rule, loosened}
+use Rattle.node_rules.specs.Held.{held-edges}
+use Rattle.plan.specs.declared.rules.Options.{Options}
+use Rattle.plan.specs.declared.rules.Ruled.{Ruled}
+use Rattle.plan.specs.Visit.{with-options, rule, loosened}
 use Rattle.storage.specs.Stored.{stored-steps}
-use Rattle.plan.specs.Sheet.{Step, step-at}
+use Rattle.plan.specs.Sheet.{step-at}
 use lib.ListN.{set}
 use mathlib.Core.List.{map}
 use mathlib.Core.Path.{sym, _∙_, ap}
@@ -20,7 +20,7 @@ refusal-of-requires c κs = search needs
 -- src/visit.rt:66:9
 returns : tie.Need-returns
 returns c =
-    (c .before .refusal-of .ensures ∙ ap (λ (x : Options). refusal-number (step-of x) (observable-of (c .before .before .args .o))) (c .before .before .pre .0 .2), ((λ z. absurd (c .if1 .taken z)), (c .before .before .pre .0 .0, c .before .before .pre .1 .0 .1)))
+    (c .before .refusal-of .ensures ∙ ap (λ (x : Options). refusal-number x (c .before .before .args .o)) (c .before .before .pre .0 .2), ((λ z. absurd (c .if1 .taken z)), (c .before .before .pre .0 .0, c .before .before .pre .1 .1)))
 
 -- src/visit.rt:68:9
 rule-of-requires : tie.Need-rule-of-requires
@@ -37,16 +37,17 @@ loosen-edges-requires c κs = search needs
 -- src/visit.rt:44:1
 returns-2 : tie.Need-returns-2
 returns-2 c =
-    let a = c .before .before .before .before .before .before .before .args in
-    let s : Step = step-at (stored-steps (now (a .steps)) (a .n-steps)) (a .n) in
-    let reads = c .before .before .before .before .rule-of .ensures ∙ ap (λ (x : Options). ruled-of (rule (step-of x) (around-of (a .e)) (observable-of (a .o)) (x .kind))) (c .before .before .before .before .before .before .before .pre .0 .2) in
-    let e = around-of (a .e) in
-    let o = observable-of (a .o) in (
-      sym (c .before .before .before .before .before .if1 .left) ∙ c .before .before .before .before .before .before .refusal-of .ensures ∙ ap (λ (x : Options). refusal-number (step-of x) o) (c .before .before .before .before .before .before .before .pre .0 .2),
+    let r = c .before .before .before .before .before .before .before in
+    let a = r .before .before .args in
+    let here = r .before .before .pre .0 .2 in
+    let ps = stored-steps (now (a .steps)) (a .n-steps) in
+    let ds = held-edges (now (a .consumer)) (now (a .slot)) (now (a .producer)) (now (a .unordered)) (a .edges) in
+    let reads = c .before .before .before .before .before .before .rule-of .ensures ∙ ap (λ (x : Options). rule x (a .e) (a .o)) here in (
+      sym (r .if1 .left) ∙ r .before .refusal-of .ensures ∙ ap (λ (x : Options). refusal-number x (a .o)) here,
       (
         (λ _. record {
-          steps = c .before .before .store-options .ensures .0 ∙ ap (set (stored-steps (now (a .steps)) (a .n-steps)) (a .n)) (ruled-is s e o (c .before .before .before .before .rule-of .result) reads (c .before .before .before .before .before .before .before .pre .1 .1));
-          edges = c .loosen-edges .ensures .0 ∙ ap (λ (l : Loosened). map (loosened (a .n) l) (held-edges (now (a .consumer)) (now (a .slot)) (now (a .producer)) (now (a .unordered)) (a .edges))) (loosened-is s e o (c .before .before .before .before .rule-of .result) reads);
+          steps = c .before .before .store-options .ensures .0 ∙ ap (λ (x : Ruled). set ps (a .n) (with-options (x .options) (step-at ps (a .n)))) reads;
+          edges = c .loosen-edges .ensures .0 ∙ ap (λ (x : Ruled). map (loosened (a .n) (x .loosened)) ds) reads;
         }),
         (c .before .before .store-options .ensures .1, c .loosen-edges .ensures .1),
       ),
