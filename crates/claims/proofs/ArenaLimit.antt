@@ -11,6 +11,7 @@ use Rattle.plan.specs.declared.ir.IR.{IR}
 use Rattle.plan.specs.Kinds.{same-ir}
 use Rattle.plan.specs.Lists.{if_then_else_, sum}
 use Rattle.plan.specs.Sheet.{Expr, Step, no-step, step-at, expr-at}
+use Rattle.tally.specs.declared.Tally.{Tally}
 use Rattle.plan.specs.declared.rules.Options.{Options}
 use Rattle.plan.specs.declared.rules.Around.{Around}
 use Rattle.plan.specs.Visit.{Run, Looked, looked-in, looks-of, options-of, with-options, ruling, ruled-step, with-implodes}
@@ -27,7 +28,7 @@ use Rattle.claims.proofs.LooksBounded.{once-started}
 use Rattle.claims.proofs.VisitLooks.{Sound, inside-of-step, inside-of-member, imploded-start, once-start, exprs-spent, aggs-spent, looks-change}
 
 -- a step that is not there has no entries
-no-entries : (w : ℕ → ℕ) (es′ : List Expr) (s : Step) (e : Around) (es : List Expr) (looks : ℕ) → s ≡ no-step → step-load w es′ (looks-of s e es looks .step) ≡ 0
+no-entries : (w : ℕ → ℕ) (es′ : List Expr) (s : Step) (e : Around) (es : List Expr) (looks : Tally) → s ≡ no-step → step-load w es′ (looks-of s e es looks .step) ≡ 0
 unfolding looks-of with-implodes sum
 no-entries w es′ s e es looks i = subst (λ (x : Step). step-load w es′ (looks-of x e es looks .step) ≡ 0) (sym i) refl
 

@@ -16,7 +16,7 @@ use Rattle.plan.specs.Lists.{if_then_else_, sum, times, empty?}
 use Rattle.plan.specs.Sheet.{Step, no-step, step-at, in-step-table, Sheet, Outcome, refused, done, _then_, refuse_when_else_, Line, E, P, line-of, read-line, read-lines, no-lines, too-long, no-plan, parts, read}
 use Rattle.plan.specs.Faults.{named, checked, references-right, uses-right, fields-right}
 use Rattle.plan.specs.Graph.{graph, sinks}
-use Rattle.plan.specs.Visit.{Run, simplify-ir-node-orders, goes, unlink-node, one-visit, settle, settled, refusal-in, looked-in, options-of, join-fails, sink-fails}
+use Rattle.plan.specs.Visit.{Run, simplify-ir-node-orders, goes, unlink-node, settle, settled, refusal-in, looked-in, options-of, join-fails, sink-fails}
 use Rattle.plan.specs.Walks.{walk, begin, down, up, simplify-and-fetch-orderings}
 use Rattle.plan.specs.Text.{printed}
 use Rattle.plan.specs.Finished.{run, finished, Called, finish, called, too-short}
@@ -72,14 +72,14 @@ unfolding simplify-ir-node-orders settle refusal-in
 visit-within n r = by (goes n r)
   where
     l : Rattle.plan.specs.Visit.Looked
-    l = looked-in n (one-visit r)
+    l = looked-in n r
 
-    on : (a b : Bool) → Within 10 11 (if eqb (if a then 10 else if b then 11 else 0) 0 then done (settled n (one-visit r)) else refused (if a then 10 else if b then 11 else 0))
+    on : (a b : Bool) → Within 10 11 (if eqb (if a then 10 else if b then 11 else 0) 0 then done (settled n r) else refused (if a then 10 else if b then 11 else 0))
     on true b = (omega arith, omega arith)
     on false true = (omega arith, omega arith)
     on false false = tt
 
-    by : (b : Bool) → Within 10 11 (if b then done (unlink-node n (one-visit r)) else settle n (one-visit r))
+    by : (b : Bool) → Within 10 11 (if b then done (unlink-node n r) else settle n r)
     by true = tt
     by false = on (join-fails (options-of (l .step)) (l .observable)) (sink-fails (options-of (l .step)) (l .observable))
 

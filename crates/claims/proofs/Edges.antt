@@ -14,7 +14,7 @@ use Rattle.plan.specs.Lists.{if_then_else_, select, sum}
 use Rattle.plan.specs.Sheet.{done, step-at}
 use Rattle.plan.specs.Graph.{Edge}
 use Rattle.plan.specs.declared.rules.Loosened.{Loosened}
-use Rattle.plan.specs.Visit.{Run, simplify-ir-node-orders, unlink-node, one-visit, settled, ruling, loosened, relinked, is-into, is-out-of, no-edge, out-edge}
+use Rattle.plan.specs.Visit.{Run, simplify-ir-node-orders, unlink-node, settled, ruling, loosened, relinked, is-into, is-out-of, no-edge, out-edge}
 use Rattle.plan.specs.Walks.{walk}
 use Rattle.claims.specs.Demand3.{leaving-among, Unordered-at}
 use Rattle.claims.proofs.Walks.{two-ways, walk-keeps}
@@ -117,7 +117,7 @@ unfolding unlink-node settled
 visit-edge Q n r e k h f g =
     elim (two-ways n r e) [
       | inl w ↦ subst (λ (q : Run). Q (edge-at k q)) (sym (w .1)) (rw at-map (f (getD (step-at (r .steps) n .inputs) 0 0)))
-      | inr w ↦ subst (λ (q : Run). Q (edge-at k q)) (sym (w .1)) (rw at-map (g (ruling n (one-visit r) .loosened)))
+      | inr w ↦ subst (λ (q : Run). Q (edge-at k q)) (sym (w .1)) (rw at-map (g (ruling n r .loosened)))
     ]
 
 -- n is neither end of d

@@ -2,6 +2,7 @@ pub mod Outcomes
 pub mod Booleans
 pub mod Taken
 pub mod Walks
+pub mod VisitsKept
 pub mod Visits
 pub mod Counts
 pub mod StepTable

@@ -14,7 +14,7 @@ use Rattle.plan.specs.declared.ir.IR.{IR}
 use Rattle.plan.specs.Lists.{if_then_else_, sum, times}
 use Rattle.plan.specs.Sheet.{Step, done, no-step, step-at}
 use Rattle.plan.specs.Graph.{Edge}
-use Rattle.plan.specs.Visit.{Run, simplify-ir-node-orders, goes, unlink-node, one-visit, settled, ruling, ruled-step, loosened, relinked, is-into, is-out-of, no-edge, with-input, out-edge}
+use Rattle.plan.specs.Visit.{Run, simplify-ir-node-orders, goes, unlink-node, settled, ruling, ruled-step, loosened, relinked, is-into, is-out-of, no-edge, with-input, out-edge}
 use Rattle.claims.specs.Demand3.{leaving}
 use Rattle.claims.proofs.Booleans.{differ, equal}
 use Rattle.claims.proofs.Counts.{true-of, T-of, not-both, of-map, mem-at, some-counted, only-one, count-map, count-same, count-none, count-balance, times-same, times-other, times-of}
@@ -114,9 +114,9 @@ module _ (ps : List Step) (n : ℕ) (rest : List ℕ) (r : Run) (g : Linked ps (
   -- A visit that settles --------------------------------------------------------------------------------------------------
 
   abbrev looser : Edge → Edge
-  looser = loosened n (ruling n (one-visit r) .loosened)
+  looser = loosened n (ruling n r .loosened)
 
-  module _ (w : goes n r ≡ false) (e : simplify-ir-node-orders n r ≡ done (settled n (one-visit r))) where
+  module _ (w : goes n r ≡ false) (e : simplify-ir-node-orders n r ≡ done (settled n r)) where
     held-now : T (unsliced-sort (step-at ps n)) → Held n rest (map looser (r .edges))
     held-now t =
         let k = leaving n r in
@@ -146,12 +146,12 @@ module _ (ps : List Step) (n : ℕ) (rest : List ℕ) (r : Run) (g : Linked ps (
         nothing false = refl
 
         still-ordered : (d : Edge) → d .unordered ≡ false → is-into n d ≡ false → looser d .unordered ≡ false
-        still-ordered d e f = rw (e, f, sort-holds-out n (one-visit r) (sort-kind (step-at (r .steps) n) (sort-now t))) (nothing (is-out-of n d))
+        still-ordered d e f = rw (e, f, sort-holds-out n r (sort-kind (step-at (r .steps) n) (sort-now t))) (nothing (is-out-of n d))
 
-    settled-linked : Linked ps rest (settled n (one-visit r))
+    settled-linked : Linked ps rest (settled n r)
     unfolding settled sum
     settled-linked = record {
-      sorts = λ k. sorts-kept (r .steps) n (ruled-step n (one-visit r)) (ruling-sort n (one-visit r)) k ∙ g .sorts k;
+      sorts = λ k. sorts-kept (r .steps) n (ruled-step n r) (ruling-sort n r) k ∙ g .sorts k;
       once = λ k t. omega (arith, g .once k t);
       leaves = λ k t. omega (arith, g .leaves k t, count-map (is-out-of k) looser (r .edges));
       enters =
@@ -169,7 +169,7 @@ module _ (ps : List Step) (n : ℕ) (rest : List ℕ) (r : Run) (g : Linked ps (
 
   -- A visit that removes --------------------------------------------------------------------------------------------------
 
-  module _ (t : step-at ps n .kind ≡ IR.Sort) (e : simplify-ir-node-orders n r ≡ done (unlink-node n (one-visit r))) where
+  module _ (t : step-at ps n .kind ≡ IR.Sort) (e : simplify-ir-node-orders n r ≡ done (unlink-node n r)) where
     abbrev input : ℕ
     input = getD (step-at (r .steps) n .inputs) 0 0
 
@@ -221,7 +221,7 @@ module _ (ps : List Step) (n : ℕ) (rest : List ℕ) (r : Run) (g : Linked ps (
         ∙ count-none (λ (d : Edge). is-out-of n (relink d)) (r .edges) (λ d m. relinked-out n input input-other d)
 
     enters-after : (k : ℕ) → step-at ps k .kind ≡ IR.Sort → List·Memᴰ k rest
-        → One-in k (step-at (unlink-node n (one-visit r) .steps) k .inputs) (map relink (r .edges))
+        → One-in k (step-at (unlink-node n r .steps) k .inputs) (map relink (r .edges))
     unfolding unlink-node
     enters-after k u m = by (ℕ-discrete k (out .consumer))
       where
@@ -270,7 +270,7 @@ module _ (ps : List Step) (n : ℕ) (rest : List ℕ) (r : Run) (g : Linked ps (
                   (λ j w. h .linked d v));
             })
 
-    unlinked-linked : Linked ps rest (unlink-node n (one-visit r))
+    unlinked-linked : Linked ps rest (unlink-node n r)
     unfolding unlink-node sum
     unlinked-linked = record {
       sorts = λ k. sorts-kept (r .steps) (out .consumer) _ refl k ∙ g .sorts k;

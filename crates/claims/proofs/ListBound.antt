@@ -74,7 +74,7 @@ weight-below es c v = by (seen-in c v)
 pub record List-spent (qs : List ℕ) (s s′ : Eos) : Type 0 where
   pub goes : Goes s s′
   pub outside : (x : ℕ) → sum (load (mark x) (s .expr-arena)) qs ≡ 0 → expr-at (s′ .expr-arena) x ≡ expr-at (s .expr-arena) x
-  pub looks : s′ .looks ≤ s .looks + 2 * sum (size (s .expr-arena)) qs + sum (Φ s) qs
+  pub looks : s′ .tally .looks ≤ s .tally .looks + 2 * sum (size (s .expr-arena)) qs + sum (Φ s) qs
 
 at-most-all : (b : Bool) (c : ℕ) (qs : List ℕ) (w : ℕ → ℕ) → (T b → List·Memᴰ c qs) → (if b then w c else 0) ≤ sum w qs
 at-most-all true c qs w m = sum-part w qs c (m tt)
@@ -100,11 +100,11 @@ list-spent qs allow s g =
 -- the bound that is reached: n × (n + 3) ÷ 2
 pub list-fewer : (qs : List ℕ) (s s′ : Eos) → Formed (s .expr-arena) → List-spent qs s s′
     → let n = length (records (s .expr-arena) qs) in
-    2 * s′ .looks ≤ 2 * s .looks + n * (n + 3)
+    2 * s′ .tally .looks ≤ 2 * s .tally .looks + n * (n + 3)
 list-fewer qs s s′ g a = rw (size-records (s .expr-arena) qs) (omega (arith, a .looks, Φ-pairs s g qs))
 
 -- the demanded one
 pub list-few : (qs : List ℕ) (s s′ : Eos) → Formed (s .expr-arena) → List-spent qs s s′
     → let n = length (records (s .expr-arena) qs) in
-    2 * s′ .looks ≤ 2 * s .looks + n * (n + 5)
+    2 * s′ .tally .looks ≤ 2 * s .tally .looks + n * (n + 5)
 list-few qs s s′ g a = let n = length (records (s .expr-arena) qs) in omega (arith, list-fewer qs s s′ g a)

@@ -26,17 +26,17 @@ use Rattle.claims.proofs.RunLimits.{below-ones}
 
 module _ (qs : List ℕ) (allow : Bool) (s : Eos) (formed : Formed (s .expr-arena)) where
   pub list-cost : (m : ℕ) → sum (size (s .expr-arena)) qs ≤ m
-      → 2 * simplify-projected-exprs qs allow s .1 .looks ≤ 2 * s .looks + m * (m + 3)
+      → 2 * simplify-projected-exprs qs allow s .1 .tally .looks ≤ 2 * s .tally .looks + m * (m + 3)
   list-cost m h =
       let k = sum (size (s .expr-arena)) qs in
       let e : length (records (s .expr-arena) qs) ≡ k = size-records (s .expr-arena) qs in
-      let b : 2 * simplify-projected-exprs qs allow s .1 .looks ≤ 2 * s .looks + k * (k + 3) =
+      let b : 2 * simplify-projected-exprs qs allow s .1 .tally .looks ≤ 2 * s .tally .looks + k * (k + 3) =
       rw e at (list-fewer qs s (simplify-projected-exprs qs allow s .1) formed (list-spent qs allow s formed)) in
       omega (arith, b, mul-le-mul h (add-le-add h (le-refl 3)))
 
   -- a list whose trees are apart, as the lists of a step are
-  pub apart-fits : Once-in qs (s .expr-arena) → length (s .expr-arena) ≤ 128 → s .looks < 2 ^ 63
-      → simplify-projected-exprs qs allow s .1 .looks < 2 ^ 64
+  pub apart-fits : Once-in qs (s .expr-arena) → length (s .expr-arena) ≤ 128 → s .tally .looks < 2 ^ 63
+      → simplify-projected-exprs qs allow s .1 .tally .looks < 2 ^ 64
   apart-fits once few start = omega (arith, list-cost 128 (omega (arith, once (λ _. 1), below-ones (length (s .expr-arena)))))
 
 -- Of a well-formed sheet --------------------------------------------------------------------------------------------------------
@@ -80,8 +80,8 @@ module _ (sh : Sheet) (wf : WellFormed sh) where
   few-below p h = size-within (length es) p (omega arith) h
 
   -- any list of at most eight records, before anything is changed
-  pub list-fits : (qs : List ℕ) (allow : Bool) (s : Eos) → s .expr-arena ≡ es → s .looks < 2 ^ 63 → length es ≤ 128 → length qs ≤ 8
-      → ((q : ℕ) → List·Memᴰ q qs → q < length es) → simplify-projected-exprs qs allow s .1 .looks < 2 ^ 64
+  pub list-fits : (qs : List ℕ) (allow : Bool) (s : Eos) → s .expr-arena ≡ es → s .tally .looks < 2 ^ 63 → length es ≤ 128 → length qs ≤ 8
+      → ((q : ℕ) → List·Memᴰ q qs → q < length es) → simplify-projected-exprs qs allow s .1 .tally .looks < 2 ^ 64
   list-fits qs allow s i start few short there =
       let all : sum (size es) qs ≤ length qs * length es = sum-at-most (size es) (length es) qs (λ q m. few-below q (there q m)) in
       let most : sum (size es) qs ≤ 1024 = omega (arith, all, mul-le-mul short few) in

@@ -115,7 +115,7 @@ module _ (p : ℕ) (s₀ s₃ : Eos) (b : Before) (again : Bool) (c : ℕ) (g : 
         (g p .earlier q (of-in-order b (kids (s₀ .expr-arena) p) q m))))
 
     looks-after : (F : Eos) → Goes s₃ F → Goes s₀ F → kids (F .expr-arena) p ≡ kids (s₀ .expr-arena) p → (T again → T (seen F p))
-        → s₃ .looks + Φ F p ≤ s₀ .looks + size (s₀ .expr-arena) p + Φ s₀ p
+        → s₃ .tally .looks + Φ F p ≤ s₀ .tally .looks + size (s₀ .expr-arena) p + Φ s₀ p
     unfolding qs
     looks-after F last whole i k =
         let wF = weight (F .expr-arena) (F .revisit-cache) in

@@ -9,7 +9,7 @@ use lib.ListN.{length, set}
 use Rattle.plan.specs.Lists.{sum}
 use Rattle.plan.specs.Sheet.{Expr, Step, Sheet, done, no-step, step-at}
 use Rattle.plan.specs.Graph.{graph}
-use Rattle.plan.specs.Visit.{Run, simplify-ir-node-orders, unlink-node, one-visit, settled, looked-in, ruling, ruled-step, out-edge}
+use Rattle.plan.specs.Visit.{Run, simplify-ir-node-orders, unlink-node, settled, looked-in, ruling, ruled-step, out-edge}
 use Rattle.plan.specs.Walks.{begin, down}
 use Rattle.claims.specs.WellFormed.{Accepted, WellFormed}
 use Rattle.claims.specs.Demand3.{Down, Up, Looks-bounded}
@@ -30,7 +30,7 @@ module _ (r : Run) (sound : Sound r) where
       let f = step-load w (r .arena) in
       omega (arith, sound .once w, sum-set f (r .steps) no-step n s, no-load w (r .arena), ap (sum (load w (r .arena))) i)
 
-  pub sound-unlinked : (n : ℕ) → Sound (unlink-node n (one-visit r))
+  pub sound-unlinked : (n : ℕ) → Sound (unlink-node n r)
   unfolding unlink-node
   sound-unlinked n = record { formed = sound .formed; once = unlinked-once (out-edge n (r .edges) .consumer) _ refl }
 
@@ -71,7 +71,7 @@ module _ (r : Run) (sound : Sound r) where
         ap (sum-below w) (changed-length c),
       )
 
-  pub sound-settled : (n : ℕ) → Sound (settled n (one-visit r))
+  pub sound-settled : (n : ℕ) → Sound (settled n r)
   unfolding settled looked-in ruling
   sound-settled n = record { formed = changed-formed (looks-change r sound n) (imploded-start r sound n .formed); once = once-settled n }
 

@@ -27,7 +27,7 @@ use Rattle.claims.proofs.LookBound.{children-spent, look-spent, replace
 
 -- of looks at the trees of qs, from s to s′
 pub record Logged (qs : List ℕ) (s s′ : Eos) (log : List ℕ) : Type 0 where
-  pub counted : s′ .looks ≡ s .looks + length log
+  pub counted : s′ .tally .looks ≡ s .tally .looks + length log
   pub own : (v : ℕ) → List·Memᴰ v log → 1 ≤ sum (load (mark v) (s .expr-arena)) qs
 
 nothing-logged : (qs : List ℕ) (s : Eos) → Logged qs s s []

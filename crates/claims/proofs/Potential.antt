@@ -68,7 +68,7 @@ pub record Spent (m : Bool) (p : ℕ) (s s′ : Eos) : Type 0 where
   pub outside : (x : ℕ) → load (mark x) (s .expr-arena) p ≡ 0 → expr-at (s′ .expr-arena) x ≡ expr-at (s .expr-arena) x
   -- without leave, p's is not replaced by its input
   pub scalar : T (not m) → expr-at (s′ .expr-arena) p .scalar ≡ expr-at (s .expr-arena) p .scalar
-  pub looks : s′ .looks + Φ s′ p ≤ s .looks + size (s .expr-arena) p + Φ s p
+  pub looks : s′ .tally .looks + Φ s′ p ≤ s .tally .looks + size (s .expr-arena) p + Φ s p
 
 abbrev pub Bounded : Look → Type 0
 Bounded rec = (m : Bool) (q : ℕ) (s : Eos) → Formed (s .expr-arena) → Spent m q s (rec m q s .1)
@@ -77,7 +77,7 @@ Bounded rec = (m : Bool) (q : ℕ) (s : Eos) → Formed (s .expr-arena) → Spen
 pub record Spent-along (qs : List ℕ) (s s′ : Eos) : Type 0 where
   pub goes : Goes s s′
   pub outside : (x : ℕ) → sum (load (mark x) (s .expr-arena)) qs ≡ 0 → expr-at (s′ .expr-arena) x ≡ expr-at (s .expr-arena) x
-  pub looks : s′ .looks + sum (Φ s′) qs ≤ s .looks + sum (size (s .expr-arena)) qs + sum (Φ s) qs
+  pub looks : s′ .tally .looks + sum (Φ s′) qs ≤ s .tally .looks + sum (size (s .expr-arena)) qs + sum (Φ s) qs
 
 -- one list after another
 spent-both : {s s₁ s₂ : Eos} (l m qs : List ℕ) → Formed (s .expr-arena) → ((w : ℕ → ℕ) → sum w qs ≡ sum w l + sum w m)
@@ -153,7 +153,7 @@ swapped v w h (q ∷ qs) c (List·Memᴰ·tail m) = omega (arith, swapped v w h 
 pub record Spent-again (qs : List ℕ) (again : Bool) (c : ℕ) (s s′ : Eos) : Type 0 where
   pub goes : Goes s s′
   pub outside : (x : ℕ) → sum (load (mark x) (s .expr-arena)) qs ≡ 0 → expr-at (s′ .expr-arena) x ≡ expr-at (s .expr-arena) x
-  pub looks : s′ .looks + sum (Φ s′) qs ≤ s .looks + sum (size (s .expr-arena)) qs + sum (Φ s) qs + (if again then size (s .expr-arena) c else 0)
+  pub looks : s′ .tally .looks + sum (Φ s′) qs ≤ s .tally .looks + sum (size (s .expr-arena)) qs + sum (Φ s) qs + (if again then size (s .expr-arena) c else 0)
 
 pub spent-again : (rec : Look) → Bounded rec → (again : Bool) (x : ExprOrderAcc) (qs : List ℕ) (s s₂ : Eos) → Formed (s .expr-arena) → Spent-along qs s s₂
     → (T again → List·Memᴰ (x .last-ordered-node) qs)

@@ -13,10 +13,11 @@ use Rattle.plan.specs.Lists.{if_then_else_}
 use Rattle.plan.specs.Sheet.{Expr, Step, done, no-expr, no-step, expr-at, step-at}
 use Rattle.plan.specs.Graph.{Edge}
 use Rattle.plan.specs.declared.rules.Options.{Options}
-use Rattle.plan.specs.Visit.{Run, implode, implode-over, imploded, with-implodes, looks-of, looked-in, options-of, with-options, ruling, out-edge, no-edge, is-into, is-out-of, relinked, with-input, unlink-node, one-visit, settled, simplify-ir-node-orders}
+use Rattle.plan.specs.Visit.{Run, implode, implode-over, imploded, with-implodes, looks-of, looked-in, options-of, with-options, ruling, out-edge, no-edge, is-into, is-out-of, relinked, with-input, unlink-node, settled, simplify-ir-node-orders}
 use Rattle.claims.proofs.Walks.{two-ways}
 use Rattle.claims.proofs.Every.{Every, every-set, every-append, every-map}
 use Rattle.claims.proofs.Changes.{Changes, no-change, takes-input, goes-off}
+use Rattle.claims.proofs.VisitsKept.{visit-visits}
 use Rattle.claims.proofs.Rules.{Small, After-rule, ruled-by}
 use Rattle.claims.proofs.VisitLooks.{Sound, looks-change}
 
@@ -105,7 +106,7 @@ pub record Printable (r : Run) : Type 0 where
   pub exprs : All-slim (r .arena)
   pub steps : All-plain (r .steps)
   pub edges : Every Short-edge no-edge (r .edges)
-  pub removed : length (r .removed) ≤ r .visits
+  pub removed : length (r .removed) ≤ r .tally .visits
 
 relinked-short : (n input : ℕ) (d : Edge) → Short-edge d → Short-edge (relinked n input d)
 relinked-short n input d k = by (is-into n d) (is-out-of n d)
@@ -123,7 +124,7 @@ relinked-short n input d k = by (is-into n d) (is-out-of n d)
     by false false = k
 
 module _ (r : Run) (k : Printable r) (n : ℕ) where
-  printable-unlinked : Printable (unlink-node n (one-visit r))
+  printable-unlinked : Printable (unlink-node n r)
   unfolding unlink-node
   printable-unlinked =
       let c = out-edge n (r .edges) .consumer in
@@ -134,7 +135,7 @@ module _ (r : Run) (k : Printable r) (n : ℕ) where
         removed = omega (arith, k .removed);
       }
 
-  printable-settled : Sound r → Printable (settled n (one-visit r))
+  printable-settled : Sound r → Printable (settled n r)
   unfolding settled looked-in ruling looks-of
   printable-settled sound =
       let s = step-at (r .steps) n in
@@ -155,7 +156,7 @@ module _ (r : Run) (k : Printable r) (n : ℕ) where
             every-set Plain no-step (r .steps) n _ (k .steps)
             (plain-ruled (l .step) _ (ruled-by n r) started);
         edges = every-map Short-edge no-edge _ (r .edges) (k .edges) (λ d h. record { consumer = h .consumer; slot = h .slot });
-        removed = omega (arith, k .removed);
+        removed = omega (arith, k .removed, visit-visits n r);
       }
 
 pub printable-visit : (n : ℕ) (r r′ : Run) → Sound r → Printable r → simplify-ir-node-orders n r ≡ done r′ → Printable r′

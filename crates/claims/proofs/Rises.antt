@@ -8,7 +8,7 @@ use mathlib.Core.List.{List, [], _∷_, List·Memᴰ·head, List·Memᴰ·not-ni
 use lib.Dec.{T}
 use Rattle.plan.specs.Sheet.{Step, done, step-at}
 use Rattle.plan.specs.Graph.{Edge}
-use Rattle.plan.specs.Visit.{Run, simplify-ir-node-orders, goes, one-visit, settled, ruling, ruled-step, loosened, is-out-of, no-edge, out-edge}
+use Rattle.plan.specs.Visit.{Run, simplify-ir-node-orders, goes, settled, ruling, ruled-step, loosened, is-out-of, no-edge, out-edge}
 use Rattle.claims.proofs.Walks.{two-ways}
 use Rattle.claims.proofs.Counts.{false-of, T-of, not-both, mem-at, counted-in, only-one, count-map}
 use Rattle.claims.proofs.Edges.{edge-at, outs, out-edge-there}
@@ -46,13 +46,13 @@ rising-visit ps gone n rest r r′ g e =
           record {
             sorts =
                 λ k. ap (λ (q : Run). unsliced-sort (step-at (q .steps) k)) (w .1)
-                ∙ sorts-kept (r .steps) n (ruled-step n (one-visit r)) (ruling-sort n (one-visit r)) k ∙ g .sorts k;
+                ∙ sorts-kept (r .steps) n (ruled-step n r) (ruling-sort n r) k ∙ g .sorts k;
             one-out =
                 λ k t. omega (
                   arith,
                   g .one-out k t,
                   ap (λ (q : Run). outs k (q .edges)) (w .1),
-                  count-map (is-out-of k) (loosened n (ruling n (one-visit r) .loosened)) (r .edges),
+                  count-map (is-out-of k) (loosened n (ruling n r .loosened)) (r .edges),
                 );
             kept =
                 kept-part ps rest (n ∷ []) [] (r′ .edges) (λ m i. absurd (List·Memᴰ·not-nil i))

@@ -13,6 +13,7 @@ use Rattle.plan.specs.declared.rules.Around.{Around}
 use Rattle.plan.specs.declared.rules.Observable.{Observable}
 use Rattle.plan.specs.declared.rules.Ruled.{Ruled}
 use Rattle.plan.specs.Kinds.{keep-strategy-number, maintain-order-number, join-type, same-join-type}
+use Rattle.plan.specs.FunctionIR.{Functions, rust-functions}
 use Rattle.plan.specs.Lists.{if_then_else_}
 use Rattle.plan.specs.Visit.{Run, looked-in, ruling, around, arm, options-of, unmaintained-if, unordered-union, merge-sorted-all, kept-by-rhs, distinct-out, distinct-in, distinct-keeps, sink-in, sort-in, group-by-out, union-all}
 
@@ -60,38 +61,38 @@ module _ (s : Options) (e : Around) (o : Observable) where
   merged true = record { kind = inr refl; small = λ k. record { a = omega arith; b = omega arith; c = omega arith } }
   merged false = itself s
 
-  after : (k : IR) → After-rule s (arm s e o k .options)
+  after : (functions : Functions) (k : IR) → After-rule s (arm s e o functions k .options)
   unfolding arm
-  after IR.Scan = itself s
-  after IR.UnoptimizedDispatch = itself s
-  after IR.Sink = off s (sink-in s e o)
-  after IR.Select = itself s
-  after IR.HStack = itself s
-  after IR.Sort = off s (sort-in s e o)
-  after IR.Filter = itself s
-  after IR.GroupBy = off s (group-by-out s e o)
-  after IR.Distinct =
+  after functions IR.Scan = itself s
+  after functions IR.UnoptimizedDispatch = itself s
+  after functions IR.Sink = off s (sink-in s e o)
+  after functions IR.Select = itself s
+  after functions IR.HStack = itself s
+  after functions IR.Sort = off s (sort-in s e o)
+  after functions IR.Filter = itself s
+  after functions IR.GroupBy = off s (group-by-out s e o)
+  after functions IR.Distinct =
       record {
         kind = inl refl;
         small =
             λ k. record { a = less s (distinct-out s e o || distinct-in s e o) k; b = k .b; c = strategy-small (distinct-keeps s e o) };
       }
-  after IR.Join =
+  after functions IR.Join =
       either (same-join-type (join-type (s .a)) JoinType.AsOf) _ _ (itself s)
       (record { kind = inl refl; small = λ k. record { a = k .a; b = maintain-small (kept-by-rhs s e o); c = k .c } })
-  after IR.Gather = itself s
-  after IR.Union = off s (union-all s e o)
-  after IR.MergeSorted = merged (merge-sorted-all s e o)
-  after IR.MapFunction = itself s
-  after IR.HConcat = itself s
-  after IR.Slice = itself s
-  after IR.ExtContext = itself s
-  after IR.SimpleProjection = itself s
-  after IR.Cache = itself s
+  after functions IR.Gather = itself s
+  after functions IR.Union = off s (union-all s e o)
+  after functions IR.MergeSorted = merged (merge-sorted-all s e o)
+  after functions IR.MapFunction = itself s
+  after functions IR.HConcat = itself s
+  after functions IR.Slice = itself s
+  after functions IR.ExtContext = itself s
+  after functions IR.SimpleProjection = itself s
+  after functions IR.Cache = itself s
 
 -- the rule of a visit
 pub ruled-by : (n : ℕ) (r : Run) → After-rule (options-of (looked-in n r .step)) (ruling n r .options)
 unfolding ruling
 ruled-by n r =
     let l = looked-in n r in
-    after (options-of (l .step)) (around n (r .edges)) (l .observable) (l .step .kind)
+    after (options-of (l .step)) (around n (r .edges)) (l .observable) rust-functions (l .step .kind)

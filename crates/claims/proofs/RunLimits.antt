@@ -13,7 +13,7 @@ use Rattle.plan.specs.Kinds.{same-ir}
 use Rattle.plan.specs.Lists.{if_then_else_, sum}
 use Rattle.plan.specs.Sheet.{Expr, Step, Sheet, done, no-step, expr-at, step-at, expr-count, over-limits}
 use Rattle.plan.specs.Graph.{graph}
-use Rattle.plan.specs.Visit.{Run, simplify-ir-node-orders, unlink-node, one-visit, settled, looked-in, looks-of, ruling, out-edge, with-input}
+use Rattle.plan.specs.Visit.{Run, simplify-ir-node-orders, unlink-node, settled, looked-in, looks-of, ruling, out-edge, with-input}
 use Rattle.plan.specs.Walks.{begin, down, up}
 use Rattle.claims.specs.WellFormed.{WellFormed}
 use Rattle.claims.specs.Demand3.{Down, Up, records}
@@ -26,6 +26,7 @@ use Rattle.claims.proofs.Sums.{sum-set, sum-below}
 use Rattle.claims.proofs.Loads.{size-records}
 use Rattle.claims.proofs.Changes.{earlier-of, changed-length}
 use Rattle.claims.proofs.Implodes.{not-scalar, still-to-append}
+use Rattle.claims.proofs.VisitsKept.{visit-visits}
 use Rattle.claims.proofs.LooksBounded.{sound-begin, sound-settled, sound-unlinked}
 use Rattle.claims.proofs.VisitLooks.{Sound, exprs-spent, looks-change, once-exprs, once-aggs, looks-bounded-in}
 use Rattle.claims.proofs.ArenaLimit.{room-settled}
@@ -45,7 +46,7 @@ module _ (r : Run) (sound : Sound r) (n : ℕ) where
   pub end-length : length (looked-in n r .end .expr-arena) ≡ length (looked-in n r .start .expr-arena)
   end-length = changed-length (looks-change r sound n)
 
-  looks-of-visit : length (looked-in n r .end .expr-arena) ≤ 128 → looked-in n r .end .looks ≤ r .looks + 17024
+  looks-of-visit : length (looked-in n r .end .expr-arena) ≤ 128 → looked-in n r .end .tally .looks ≤ r .tally .looks + 17024
   unfolding looked-in looks-of
   looks-of-visit h =
       let l = looked-in n r in
@@ -71,8 +72,8 @@ module _ (r : Run) (sound : Sound r) (n : ℕ) where
       ) in
       omega (
         arith,
-        few-of-128 n₁ (l .start .looks) (l .between .looks) k₁ (bounded .exprs .few),
-        few-of-128 n₂ (l .between .looks) (l .end .looks) k₂ (bounded .aggs .few),
+        few-of-128 n₁ (l .start .tally .looks) (l .between .tally .looks) k₁ (bounded .exprs .few),
+        few-of-128 n₂ (l .between .tally .looks) (l .end .tally .looks) k₂ (bounded .aggs .few),
       )
 
 -- The run ----------------------------------------------------------------------------------------------------------------------
@@ -83,11 +84,11 @@ pub record Within (most left : ℕ) (r : Run) : Type 0 where
   pub room : length (r .arena) + sum (still-to-append (r .arena)) (r .steps) ≤ 128
   pub steps : length (r .steps) ≤ 32
   pub edges : length (r .edges) ≤ 256
-  pub visits : r .visits + left ≤ most
-  pub looks : r .looks ≤ 17024 * r .visits
+  pub visits : r .tally .visits + left ≤ most
+  pub looks : r .tally .looks ≤ 17024 * r .tally .visits
 
 module _ {most left : ℕ} (r : Run) (k : Within most (suc left) r) (n : ℕ) where
-  within-unlinked : Within most left (unlink-node n (one-visit r))
+  within-unlinked : Within most left (unlink-node n r)
   unfolding unlink-node
   within-unlinked =
       let c = out-edge n (r .edges) .consumer in
@@ -103,7 +104,7 @@ module _ {most left : ℕ} (r : Run) (k : Within most (suc left) r) (n : ℕ) wh
   pub end-within : length (looked-in n r .end .expr-arena) ≤ 128
   end-within = omega (arith, room-settled r (k .sound) n, k .room)
 
-  within-settled : Within most left (settled n (one-visit r))
+  within-settled : Within most left (settled n r)
   unfolding settled looked-in ruling
   within-settled =
       record {
@@ -111,8 +112,8 @@ module _ {most left : ℕ} (r : Run) (k : Within most (suc left) r) (n : ℕ) wh
         room = omega (arith, room-settled r (k .sound) n, k .room);
         steps = simp length-set (k .steps);
         edges = simp length-map (k .edges);
-        visits = omega (arith, k .visits);
-        looks = omega (arith, k .looks, looks-of-visit r (k .sound) n end-within);
+        visits = omega (arith, k .visits, visit-visits n r);
+        looks = omega (arith, k .looks, visit-visits n r, looks-of-visit r (k .sound) n end-within);
       }
 
   pub visit-limits : most ≤ 2 ^ 32 → Visit-limits n r

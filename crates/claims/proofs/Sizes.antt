@@ -77,7 +77,7 @@ edges-kept n r e = visited n r e .edges
 record Sized (sh : Sheet) (all : ℕ) (rest : List ℕ) (r : Run) : Type 0 where
   steps : length (r .steps) ≡ length (sh .steps)
   edges : length (r .edges) ≡ length (graph (sh .steps) .1)
-  visits : r .visits + length rest ≡ all
+  visits : r .tally .visits + length rest ≡ all
 
 sized-visit : (sh : Sheet) (all : ℕ) (n : ℕ) (ns : List ℕ) (r r′ : Run) → Sized sh all (n ∷ ns) r → simplify-ir-node-orders n r ≡ done r′ → Sized sh all ns r′
 sized-visit sh all n ns r r′ s e =
@@ -88,8 +88,8 @@ sized-visit sh all n ns r r′ s e =
 pub record Small (r : Run) : Type 0 where
   pub steps : length (r .steps) ≤ 32
   pub edges : length (r .edges) ≤ 256
-  pub few : r .visits < 576
-  pub visits : r .visits < 2 ^ 64
+  pub few : r .tally .visits < 576
+  pub visits : r .tally .visits < 2 ^ 64
 
 module _ (sh : Sheet) (w : WellFormed sh) where
   small : (all : ℕ) → all ≤ 576 → (n : ℕ) (ns : List ℕ) (r : Run) → Sized sh all (n ∷ ns) r → Small r
@@ -115,6 +115,6 @@ module _ (sh : Sheet) (w : WellFormed sh) where
   small-up half e n r m =
       let t = walked (graph (sh .steps) .0) (begin sh) e in
       let h = walk-keeps (Sized sh (length (graph (sh .steps) .0))) (sized-visit sh (length (graph (sh .steps) .0))) (graph (sh .steps) .0) (begin sh) begins e in
-      let all = half .visits + length (half .back) in
+      let all = half .tally .visits + length (half .back) in
       let (ms, s) = trace-keeps (Sized sh all) (sized-visit sh all) (half .back) half (record { steps = h .steps; edges = h .edges; visits = refl }) n r m in
       small all (omega (arith, few-places sh w, t .back, t .visits)) n ms r s

@@ -12,6 +12,7 @@ use lib.Seq.{set-out, getD-set-same, getD-set-other}
 use Rattle.plan.specs.declared.ir.IR.{IR}
 use Rattle.plan.specs.Kinds.{same-ir, join-type, same-join-type}
 use Rattle.plan.specs.declared.join.JoinType.{JoinType}
+use Rattle.plan.specs.FunctionIR.{Functions, rust-functions}
 use Rattle.plan.specs.Lists.{if_then_else_, yes?}
 use Rattle.plan.specs.Sheet.{Step, done, no-step, step-at}
 use Rattle.plan.specs.Graph.{Edge}
@@ -36,11 +37,11 @@ sort-kind s t = same-kind (s .kind) IR.Sort (and-left (same-ir (s .kind) IR.Sort
 abbrev unsliced : Options → Bool
 unsliced s = same-ir (s .kind) IR.Sort && not (yes? (s .b))
 
-module _ (s : Options) (e : Around) (o : Observable) where
+module _ (s : Options) (e : Around) (o : Observable) (functions : Functions) where
   neither-sort : (t : Options) → same-ir (s .kind) IR.Sort ≡ false → same-ir (t .kind) IR.Sort ≡ false → unsliced t ≡ unsliced s
   neither-sort t f g = rw (f, g)
 
-  rule-sort : (k : IR) → k ≡ s .kind → unsliced (arm s e o k .options) ≡ unsliced s
+  rule-sort : (k : IR) → k ≡ s .kind → unsliced (arm s e o functions k .options) ≡ unsliced s
   unfolding arm
   rule-sort IR.Scan i = refl
   rule-sort IR.UnoptimizedDispatch i = refl
@@ -74,17 +75,17 @@ module _ (s : Options) (e : Around) (o : Observable) where
   rule-sort IR.Cache i = refl
 
   -- a sort's rule loosens nothing that leaves it
-  rule-holds-out : s .kind ≡ IR.Sort → rule s e o .loosened .out ≡ false
+  rule-holds-out : s .kind ≡ IR.Sort → rule functions s e o .loosened .out ≡ false
   unfolding arm
-  rule-holds-out i = ap (λ (k : IR). arm s e o k .loosened .out) i
+  rule-holds-out i = ap (λ (k : IR). arm s e o functions k .loosened .out) i
 
 pub ruling-sort : (n : ℕ) (r : Run) → unsliced-sort (ruled-step n r) ≡ unsliced-sort (step-at (r .steps) n)
 unfolding ruling looked-in looks-of
-ruling-sort n r = rule-sort _ _ (looked-in n r .observable) _ refl
+ruling-sort n r = rule-sort _ _ (looked-in n r .observable) rust-functions _ refl
 
 pub sort-holds-out : (n : ℕ) (r : Run) → step-at (r .steps) n .kind ≡ IR.Sort → ruling n r .loosened .out ≡ false
 unfolding ruling looked-in looks-of
-sort-holds-out n r i = rule-holds-out _ _ (looked-in n r .observable) i
+sort-holds-out n r i = rule-holds-out _ _ (looked-in n r .observable) rust-functions i
 
 -- another step at c, of which f reads what it read of the one before
 pub reads-kept : {A : Type 0} (f : Step → A) (ps : List Step) (c : ℕ) (s : Step) → f s ≡ f (step-at ps c)

@@ -144,13 +144,13 @@ edge-line-short d h k =
       short-width (digit (not (d .unordered))) (digit-small (not (d .unordered))),
     )
 
-pub tally-line-short : (r : Run) → length (r .removed) < 1000 → r .visits < 2 ^ 64 → r .looks < 2 ^ 64 → length (tally-line r) ≤ 64
+pub tally-line-short : (r : Run) → length (r .removed) < 1000 → r .tally .visits < 2 ^ 64 → r .tally .looks < 2 ^ 64 → length (tally-line r) ≤ 64
 unfolding tally-line sum
 tally-line-short r h k l =
     omega (
       arith,
-      line-length 84 (length (r .removed) ∷ r .visits ∷ r .looks ∷ []),
+      line-length 84 (length (r .removed) ∷ r .tally .visits ∷ r .tally .looks ∷ []),
       short-width (length (r .removed)) h,
-      long-width (r .visits) k,
-      long-width (r .looks) l,
+      long-width (r .tally .visits) k,
+      long-width (r .tally .looks) l,
     )

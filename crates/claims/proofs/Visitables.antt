@@ -13,7 +13,7 @@ use Rattle.plan.specs.Lists.{if_then_else_, times}
 use Rattle.plan.specs.Sheet.{Expr, Step, Sheet, done, no-step, step-at, in-step-table}
 use Rattle.plan.specs.Faults.{named}
 use Rattle.plan.specs.Graph.{Edge, graph, sinks}
-use Rattle.plan.specs.Visit.{Run, simplify-ir-node-orders, unlink-node, one-visit, settled, looked-in, looks-of, ruled-step, with-input, no-edge, out-edge}
+use Rattle.plan.specs.Visit.{Run, simplify-ir-node-orders, unlink-node, settled, looked-in, looks-of, ruled-step, with-input, no-edge, out-edge}
 use Rattle.plan.specs.Walks.{begin, down}
 use Rattle.claims.specs.WellFormed.{WellFormed}
 use Rattle.claims.specs.Visitable.{Visitable}
@@ -55,11 +55,11 @@ module _ (n : ℕ) (r : Run) {r′ : Run} (e : simplify-ir-node-orders n r ≡ d
       let Kept : Run → Type 0 = λ q. Every Readable no-step (q .steps) in
       elim (two-ways n r e) [
         | inl (_, i) ↦ subst Kept (sym i) (every-set Readable no-step (r .steps) c _ k (readable-with-input _ _ (step-at (r .steps) c) (k c)))
-        | inr (_, i) ↦ subst Kept (sym i) (every-set Readable no-step (r .steps) n _ k (readable-ruled n (one-visit r) (k n)))
+        | inr (_, i) ↦ subst Kept (sym i) (every-set Readable no-step (r .steps) n _ k (readable-ruled n r (k n)))
       ]
 
   -- what is read of a step, if neither another input in a slot nor the rule changes it
-  pub step-kept : {A : Type 0} (f : Step → A) → ((k v : ℕ) (s : Step) → f (with-input k v s) ≡ f s) → f (ruled-step n (one-visit r)) ≡ f (step-at (r .steps) n)
+  pub step-kept : {A : Type 0} (f : Step → A) → ((k v : ℕ) (s : Step) → f (with-input k v s) ≡ f s) → f (ruled-step n r) ≡ f (step-at (r .steps) n)
       → (m : ℕ) → f (step-at (r′ .steps) m) ≡ f (step-at (r .steps) m)
   unfolding unlink-node settled
   step-kept f linked ruled m =

@@ -8,24 +8,25 @@ use lib.ListN.{length, length-append, length-map, length-reverse}
 use Rattle.plan.specs.Lists.{numbered}
 use Rattle.plan.specs.Sheet.{Step, Sheet, done}
 use Rattle.plan.specs.Graph.{Edge, graph, grow, popped, following, edges-into, sinks, most-places}
-use Rattle.plan.specs.Visit.{Run, simplify-ir-node-orders, unlink-node, one-visit, settled}
+use Rattle.plan.specs.Visit.{Run, simplify-ir-node-orders, unlink-node, settled}
 use Rattle.plan.specs.Walks.{walk, begin, down, up}
 use Rattle.claims.proofs.Outcomes.{both-done}
 use Rattle.claims.proofs.Walks.{two-ways}
+use Rattle.claims.proofs.VisitsKept.{visit-visits}
 
 -- what k visits do to the tallies
 pub record Tallies (k : ℕ) (r r′ : Run) : Type 0 where
-  pub visits : r′ .visits ≡ r .visits + k
+  pub visits : r′ .tally .visits ≡ r .tally .visits + k
   pub back : length (r′ .back) + length (r′ .removed) ≡ length (r .back) + length (r .removed) + k
   pub edges : length (r′ .edges) ≡ length (r .edges)
 
-unlinked : (n : ℕ) (r : Run) → Tallies 1 r (unlink-node n (one-visit r))
+unlinked : (n : ℕ) (r : Run) → Tallies 1 r (unlink-node n r)
 unfolding unlink-node
 unlinked n r = record { visits = refl; back = omega arith; edges = simp length-map }
 
-settles : (n : ℕ) (r : Run) → Tallies 1 r (settled n (one-visit r))
+settles : (n : ℕ) (r : Run) → Tallies 1 r (settled n r)
 unfolding settled
-settles n r = record { visits = refl; back = omega arith; edges = simp length-map }
+settles n r = record { visits = omega (arith, visit-visits n r); back = omega arith; edges = simp length-map }
 
 pub visited : (n : ℕ) (r : Run) {r′ : Run} → simplify-ir-node-orders n r ≡ done r′ → Tallies 1 r r′
 visited n r e =
@@ -69,7 +70,7 @@ unfolding graph
 places-counted ps = omega (arith, grown (most-places ps) ps (popped ps) [] (sinks ps) [])
 
 pub visits-counted : (sh : Sheet) (half whole : Run) → down sh ≡ done half → up half ≡ done whole
-    → whole .visits + length (half .removed) ≡ 2 * (length (sinks (sh .steps)) + length (whole .edges))
+    → whole .tally .visits + length (half .removed) ≡ 2 * (length (sinks (sh .steps)) + length (whole .edges))
 unfolding down up begin
 visits-counted sh half whole e₁ e₂ =
     let t = walked (graph (sh .steps) .0) (begin sh) e₁ in

@@ -7,23 +7,20 @@ use mathlib.Core.List.{List, [], _∷_, List·Memᴰ, List·Memᴰ·not-nil, Lis
 use lib.Dec.{eqb}
 use Rattle.plan.specs.Lists.{if_then_else_}
 use Rattle.plan.specs.Sheet.{Outcome, refused, done, _then_}
-use Rattle.plan.specs.Visit.{Run, simplify-ir-node-orders, goes, unlink-node, one-visit, settle, settled, refusal-in}
+use Rattle.plan.specs.Visit.{Run, simplify-ir-node-orders, goes, unlink-node, settle, settled, refusal-in}
 use Rattle.plan.specs.Walks.{walk, trace, then-all}
 use Rattle.claims.proofs.Outcomes.{came, both-done}
 
 -- a visit removes the step, or settles it
 pub two-ways : (n : ℕ) (r : Run) {r′ : Run} → simplify-ir-node-orders n r ≡ done r′
-    → ((goes n r ≡ true) × (r′ ≡ unlink-node n (one-visit r))) ⊎ ((goes n r ≡ false) × (r′ ≡ settled n (one-visit r)))
+    → ((goes n r ≡ true) × (r′ ≡ unlink-node n r)) ⊎ ((goes n r ≡ false) × (r′ ≡ settled n r))
 unfolding simplify-ir-node-orders settle
 two-ways n r {r′} e = by (goes n r) refl e
   where
-    r₀ : Run
-    r₀ = one-visit r
-
-    by : (b : Bool) → goes n r ≡ b → (if b then done (unlink-node n r₀) else settle n r₀) ≡ done r′
-        → ((goes n r ≡ true) × (r′ ≡ unlink-node n r₀)) ⊎ ((goes n r ≡ false) × (r′ ≡ settled n r₀))
-    by true i e = inl (i, sym (came true (unlink-node n r₀) 0 e))
-    by false i e = inr (i, sym (came (eqb (refusal-in n r₀) 0) (settled n r₀) (refusal-in n r₀) e))
+    by : (b : Bool) → goes n r ≡ b → (if b then done (unlink-node n r) else settle n r) ≡ done r′
+        → ((goes n r ≡ true) × (r′ ≡ unlink-node n r)) ⊎ ((goes n r ≡ false) × (r′ ≡ settled n r))
+    by true i e = inl (i, sym (came true (unlink-node n r) 0 e))
+    by false i e = inr (i, sym (came (eqb (refusal-in n r) 0) (settled n r) (refusal-in n r) e))
 
 module _ (P : List ℕ → Run → Type 0) (keep : (n : ℕ) (ns : List ℕ) (r r′ : Run) → P (n ∷ ns) r → simplify-ir-node-orders n r ≡ done r′ → P ns r′) where
   pub walk-keeps : (ns : List ℕ) (r : Run) {r′ : Run} → P ns r → walk ns r ≡ done r′ → P [] r′

@@ -106,11 +106,11 @@ pub record List-bounded (qs : List ℕ) (allow : Bool) (s s′ : Eos) : Type 0 w
   -- at most n × (n + 5) ÷ 2 looks, where n is the number of its records when they begin
   pub few :
       let n = length (records (s .expr-arena) qs) in
-      2 * s′ .looks ≤ 2 * s .looks + n * (n + 5)
+      2 * s′ .tally .looks ≤ 2 * s .tally .looks + n * (n + 5)
   -- no record stands twice among them, so that n is their number
   pub apart : (p : ℕ) → times p (records (s .expr-arena) qs) ≤ 1
   -- each look made is at one of them
-  pub counted : s′ .looks ≡ s .looks + length (made-in-list qs allow s)
+  pub counted : s′ .tally .looks ≡ s .tally .looks + length (made-in-list qs allow s)
   pub own : (p : ℕ) → List·Memᴰ p (made-in-list qs allow s) → List·Memᴰ p (records (s .expr-arena) qs)
 
 -- of the two lists of a visit to n in the state r; an Implode that the visit appends is there when they begin
@@ -134,9 +134,9 @@ pub record Finished-run (s out : List ℕ) : Type 0 where
   pub prints :
       out
       ≡ exprs-block whole ++ steps-block whole ++ concat-map edge-line (whole .edges)
-      ++ line 84 (length (whole .removed) ∷ whole .visits ∷ whole .looks ∷ [])
+      ++ line 84 (length (whole .removed) ∷ whole .tally .visits ∷ whole .tally .looks ∷ [])
   -- with s sinks, e edges and r sorts removed by the downward walk, 2 × (s + e) − r visits
-  pub visits : whole .visits + length (half .removed) ≡ 2 * (length (sinks (sheet .steps)) + length (whole .edges))
+  pub visits : whole .tally .visits + length (half .removed) ≡ 2 * (length (sinks (sheet .steps)) + length (whole .edges))
   pub sorts : Sorts-removed sheet half whole
 
 pub record Demand-3 (s : List ℕ) : Type 0 where

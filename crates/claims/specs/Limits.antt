@@ -20,15 +20,15 @@ pub record Run-limits (r : Run) : Type 0 where
   pub earlier : Children-earlier (r .arena)
   pub steps : length (r .steps) ≤ 32
   pub edges : length (r .edges) ≤ 256
-  pub visits : r .visits < 2 ^ 64
-  pub looks : r .looks < 2 ^ 64
+  pub visits : r .tally .visits < 2 ^ 64
+  pub looks : r .tally .looks < 2 ^ 64
 
 -- in the state of any visit, and after its looks
 pub record Visit-limits (n : ℕ) (r : Run) : Type 0 where
   pub before : Run-limits r
   pub exprs : length (looked-in n r .end .expr-arena) ≤ 128
   pub earlier : Children-earlier (looked-in n r .end .expr-arena)
-  pub looks : looked-in n r .end .looks < 2 ^ 64
+  pub looks : looked-in n r .end .tally .looks < 2 ^ 64
 
 pub record Limits (s : List ℕ) (sh : Sheet) : Type 0 where
   pub places : length (graph (sh .steps) .0) ≤ 288

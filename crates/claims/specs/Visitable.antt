@@ -8,15 +8,15 @@ use Rattle.plan.specs.Visit.{Run, no-edge, goes, looked-in}
 
 pub record Visitable (n : ℕ) (r : Run) : Type 0 where
   pub step : n < length (r .steps)
-  pub visits : r .visits + 1 < 2 ^ 64
+  pub visits : r .tally .visits + 1 < 2 ^ 64
   -- the entries of its two lists are records, those of the n3 list also before the Implodes are appended
   pub exprs : (q : ℕ) → List·Memᴰ q (step-at (r .steps) n .exprs) → q < length (r .arena)
   pub aggs : (q : ℕ) → List·Memᴰ q (step-at (r .steps) n .aggs) → q < length (r .arena)
   pub imploded : (q : ℕ) → List·Memᴰ q (looked-in n r .step .aggs) → q < length (looked-in n r .start .expr-arena)
   -- the arena has room for the Implodes, and the tally for the looks
   pub room : length (looked-in n r .start .expr-arena) ≤ 128
-  pub between : looked-in n r .between .looks < 2 ^ 64
-  pub looks : looked-in n r .end .looks < 2 ^ 64
+  pub between : looked-in n r .between .tally .looks < 2 ^ 64
+  pub looks : looked-in n r .end .tally .looks < 2 ^ 64
   -- every edge leads to a slot of a step
   pub consumers : (k : ℕ) → k < length (r .edges) → getD (r .edges) k no-edge .consumer < length (r .steps)
   pub slots : (k : ℕ) → k < length (r .edges)

@@ -110,7 +110,7 @@ edge-lines r behind =
     ∙ take-append-seam before (tally-line r))
     ∙ drop-append-seam (exprs-block r ++ steps-block r) (edges-block r)
 
-last-line : (r : Run) → drop (length (exprs-block r ++ steps-block r ++ edges-block r)) (printed r) ≡ line 84 (length (r .removed) ∷ r .visits ∷ r .looks ∷ [])
+last-line : (r : Run) → drop (length (exprs-block r ++ steps-block r ++ edges-block r)) (printed r) ≡ line 84 (length (r .removed) ∷ r .tally .visits ∷ r .tally .looks ∷ [])
 unfolding printed tally-line
 last-line r = drop-append-seam (exprs-block r ++ steps-block r ++ edges-block r) (tally-line r)
 
@@ -149,7 +149,7 @@ module _ (s entry : List ℕ) (r : Run) (runs : run s ≡ done r) where
         g-lines = edge-lines r behind ∙ sym (ap (λ (x : Run). concat-map edge-line (x .edges)) same-run);
         t-line =
             ap (drop (length (exprs-block r ++ steps-block r ++ edges-block r))) front ∙ last-line r
-            ∙ sym (ap (λ (x : Run). line 84 (length (x .removed) ∷ x .visits ∷ x .looks ∷ [])) same-run);
+            ∙ sym (ap (λ (x : Run). line 84 (length (x .removed) ∷ x .tally .visits ∷ x .tally .looks ∷ [])) same-run);
       }
 
 module _ (s entry exit : List ℕ) (r : Answer) (e : call r exit ≡ finish s entry) where

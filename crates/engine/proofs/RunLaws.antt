@@ -114,7 +114,7 @@ module _ (run : Run) (e p g t entry exit : List ℕ) (f : Finished) (w : Sheet-w
   unfolding printed
   bytes-are = blocks .bytes
 
-  answer-is : f .removed ≡ length (run .removed) → f .visits ≡ run .visits → f .looks ≡ run .looks → f ≡ finished-answer run
+  answer-is : f .removed ≡ length (run .removed) → f .visits ≡ run .tally .visits → f .looks ≡ run .tally .looks → f ≡ finished-answer run
   unfolding finished-answer printed
   answer-is x y z = finished-is f (blocks .exprs) (blocks .steps) (blocks .edges) (blocks .all) x y z
 

@@ -23,7 +23,7 @@ pub record Stands (s exit : List ℕ) (f : Finished) : Type 0 where
   -- the T line, behind the G lines, has that run's figures
   pub t-line :
       drop (f .edges) (take (f .length) exit)
-      ≡ line 84 (length (run .whole .removed) ∷ run .whole .visits ∷ run .whole .looks ∷ [])
+      ≡ line 84 (length (run .whole .removed) ∷ run .whole .tally .visits ∷ run .whole .tally .looks ∷ [])
 
 abbrev pub Stands-if-finished : List ℕ → List ℕ → Answer → Type 0
 Stands-if-finished s exit (Answer.Finished f) = Stands s exit f

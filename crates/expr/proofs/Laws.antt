@@ -56,13 +56,13 @@ module _ (f : ℕ) (allow : Bool) (p : ℕ) (s : Eos) (e : Expr) (e-is : e ≡ e
 
 -- The tally only grows -----------------------------------------------------------------------------------------------------------
 
-module _ (rec : Look) (up : (m : Bool) (q : ℕ) (s : Eos) → s .looks ≤ rec m q s .1 .looks) where
-  pub up-along : (m : Bool) (qs : List ℕ) (os : List ObservableOrders) (x : ExprOrderAcc) (s : Eos) → s .looks ≤ look-along rec m qs os x s .2 .looks
+module _ (rec : Look) (up : (m : Bool) (q : ℕ) (s : Eos) → s .tally .looks ≤ rec m q s .1 .tally .looks) where
+  pub up-along : (m : Bool) (qs : List ℕ) (os : List ObservableOrders) (x : ExprOrderAcc) (s : Eos) → s .tally .looks ≤ look-along rec m qs os x s .2 .tally .looks
   unfolding look-along
   up-along m [] os x s = le-refl _
   up-along m (q ∷ qs) os x s = le-trans (up m q s) (up-along m qs (os ++ (rec m q s .0 ∷ [])) (add x (rec m q s .0) q) (rec m q s .1))
 
-  up-children : (e : Expr) (b : Before) (s : Eos) → s .looks ≤ look-along-children rec e b s .2 .looks
+  up-children : (e : Expr) (b : Before) (s : Eos) → s .tally .looks ≤ look-along-children rec e b s .2 .tally .looks
   unfolding look-along-children
   up-children e b s =
       let qs = in-order b (e .children) in
@@ -70,42 +70,42 @@ module _ (rec : Look) (up : (m : Bool) (q : ℕ) (s : Eos) → s .looks ≤ rec 
       le-trans (up-along (b .first) (take 1 qs) [] no-orders s)
       (up-along (b .others) (drop 1 qs) (d .0) (d .1) (enter-struct e (d .0) (d .2)))
 
-  pub up-from : (e : Expr) (b : Before) (i : ℕ) (os : List ObservableOrders) (x : ExprOrderAcc) (s : Eos) → s .looks ≤ along-from rec e b i os x s .2 .looks
+  pub up-from : (e : Expr) (b : Before) (i : ℕ) (os : List ObservableOrders) (x : ExprOrderAcc) (s : Eos) → s .tally .looks ≤ along-from rec e b i os x s .2 .tally .looks
   up-from e b zero os x s = up-children e b s
   up-from e b (suc i) os x s = up-along (b .others) (drop (suc i) (in-order b (e .children))) os x s
 
-  up-again : (b : Bool) (x : ExprOrderAcc) (s : Eos) → s .looks ≤ look-again rec b x s .1 .looks
+  up-again : (b : Bool) (x : ExprOrderAcc) (s : Eos) → s .tally .looks ≤ look-again rec b x s .1 .tally .looks
   unfolding look-again
   up-again true x s = up true (x .last-ordered-node) s
   up-again false x s = le-refl _
 
-  pub up-finish : (p : ℕ) (e : Expr) (field : ObservableOrders) (d : Answers) (v : After) → d .2 .looks ≤ finish rec p e field d v .1 .looks
+  pub up-finish : (p : ℕ) (e : Expr) (field : ObservableOrders) (d : Answers) (v : After) → d .2 .tally .looks ≤ finish rec p e field d v .1 .tally .looks
   unfolding look-ended
   up-finish p e field d v = up-again (v .again) (d .1) (d .2)
 
-  up-whole : (allow : Bool) (p : ℕ) (e : Expr) (b : Before) (s : Eos) → s .looks ≤ look-whole rec allow p e b s .1 .looks
+  up-whole : (allow : Bool) (p : ℕ) (e : Expr) (b : Before) (s : Eos) → s .tally .looks ≤ look-whole rec allow p e b s .1 .tally .looks
   unfolding look-whole
   up-whole allow p e b s =
       let d = look-along-children rec e b s in
       le-trans (up-children e b s) (up-finish p e (s .struct-field-ordering) d (after-answers allow e (s .struct-field-ordering) d))
 
-  up-at : (allow : Bool) (p : ℕ) (e : Expr) (b : Before) (s : Eos) (c : Option ObservableOrders) (r : Bool) → s .looks ≤ look-at rec allow p e b s c r .1 .looks
+  up-at : (allow : Bool) (p : ℕ) (e : Expr) (b : Before) (s : Eos) (c : Option ObservableOrders) (r : Bool) → s .tally .looks ≤ look-at rec allow p e b s c r .1 .tally .looks
   unfolding look-at
   up-at allow p e b s (some o) r = le-refl _
   up-at allow p e b s none true = up allow p (replace-by-input p e s)
   up-at allow p e b s none false = up-whole allow p e b s
 
-up-more : (f : ℕ) → ((m : Bool) (q : ℕ) (s : Eos) → s .looks ≤ look f m q s .1 .looks) → (m : Bool) (q : ℕ) (s : Eos) → s .looks + 1 ≤ look (suc f) m q s .1 .looks
+up-more : (f : ℕ) → ((m : Bool) (q : ℕ) (s : Eos) → s .tally .looks ≤ look f m q s .1 .tally .looks) → (m : Bool) (q : ℕ) (s : Eos) → s .tally .looks + 1 ≤ look (suc f) m q s .1 .tally .looks
 unfolding look
 up-more f up m q s =
     let e = expr-at (s .expr-arena) q in
     let b = before e m (e .kind) in
     up-at (look f) up m q e b (one-look s) (check-return-cached b q (one-look s)) (is-replaced (s .expr-arena) e m)
 
-pub up-look : (f : ℕ) (m : Bool) (q : ℕ) (s : Eos) → s .looks ≤ look f m q s .1 .looks
+pub up-look : (f : ℕ) (m : Bool) (q : ℕ) (s : Eos) → s .tally .looks ≤ look f m q s .1 .tally .looks
 unfolding look
 up-look zero m q s = le-refl _
-up-look (suc f) m q s = let h : s .looks + 1 ≤ look (suc f) m q s .1 .looks = up-more f (up-look f) m q s in omega arith
+up-look (suc f) m q s = let h : s .tally .looks + 1 ≤ look (suc f) m q s .1 .tally .looks = up-more f (up-look f) m q s in omega arith
 
-pub up-count : (f : ℕ) (m : Bool) (q : ℕ) (s : Eos) → s .looks + 1 ≤ look (suc f) m q s .1 .looks
+pub up-count : (f : ℕ) (m : Bool) (q : ℕ) (s : Eos) → s .tally .looks + 1 ≤ look (suc f) m q s .1 .tally .looks
 up-count f m q s = up-more f (up-look f) m q s

@@ -38,7 +38,7 @@ no-entries = fun-ext (λ q. rw (all-same {A = ℕ} 128 q 0))
 
 opened : (recs : List ℕ) (n : ℕ) (line : List ℕ) (off : List Bool) (tally : Tally)
     → eos-of recs n (record { line = line; off = off; cache = replicate 128 0; field = ∅; observed = ∅; tally = tally; answer = ∅ })
-    ≡ expr-order-simplifier (arena-of recs line off n) (tally .looks)
+    ≡ expr-order-simplifier (arena-of recs line off n) tally
 unfolding eos-of
 opened recs n line off tally = rw no-entries
 
@@ -48,7 +48,7 @@ started line off tally = record { is = start-is; line-is = refl; off-is = refl; 
   where
     start-is : (recs : List ℕ) (n : ℕ)
         → eos-of recs n (record { line = line; off = off; cache = replicate 128 0; field = ∅; observed = ∅; tally = tally; answer = ∅ })
-        ≡ expr-order-simplifier (arena-of recs line off n) (tally .looks)
+        ≡ expr-order-simplifier (arena-of recs line off n) tally
     start-is recs n = opened recs n line off tally
 
 -- The definition's list ----------------------------------------------------------------------------------------------------------
@@ -80,11 +80,11 @@ or-false false = refl
 nothing-more : (o : ObservableOrders) → o ∪ ∅ ≡ o
 nothing-more o = rw (or-false (o .column), or-false (o .independent))
 
-up-ended : (rec : Look) → ((m : Bool) (q : ℕ) (s : plan.Eos) → s .looks ≤ rec m q s .1 .looks) → (allow : Bool) (d : Answers) → d .2 .looks ≤ ended-list rec allow d .1 .looks
+up-ended : (rec : Look) → ((m : Bool) (q : ℕ) (s : plan.Eos) → s .tally .looks ≤ rec m q s .1 .tally .looks) → (allow : Bool) (d : Answers) → d .2 .tally .looks ≤ ended-list rec allow d .1 .tally .looks
 unfolding look-again
 up-ended rec up allow d = go (single (d .1) && allow)
   where
-    go : (b : Bool) → d .2 .looks ≤ look-again rec b (d .1) (internal-observe (if d .1 .saw-mixed-inputs then d .1 .acc else ∅) (d .2)) .1 .looks
+    go : (b : Bool) → d .2 .tally .looks ≤ look-again rec b (d .1) (internal-observe (if d .1 .saw-mixed-inputs then d .1 .acc else ∅) (d .2)) .1 .tally .looks
     go true = up true (d .1 .last-ordered-node) (internal-observe (if d .1 .saw-mixed-inputs then d .1 .acc else ∅) (d .2))
     go false = le-refl _
 
@@ -99,7 +99,7 @@ observing o s =
     record { line = s .line; off = s .off; cache = s .cache; field = s .field; observed = o; tally = s .tally; answer = s .answer }
 
 kept-observing : (o : ObservableOrders) (s : State) → Kept s (observing o s)
-kept-observing o s = record { sized = λ z. record { line = z .line; off = z .off; cache = z .cache }; lower = λ q. le-refl _; visits = refl }
+kept-observing o s = record { sized = λ z. record { line = z .line; off = z .off; cache = z .cache }; lower = λ q. le-refl _ }
 
 eos-observing : (recs : List ℕ) (n : ℕ) (s : State) (o : ObservableOrders) → eos-of recs n (observing (s .observed ∪ o) s) ≡ internal-observe o (eos-of recs n s)
 unfolding eos-of

@@ -32,7 +32,7 @@ use Rattle.expr.proofs.View.{arena-at, arena-copied, arena-off, cache-w
 -- What is kept -------------------------------------------------------------------------------------------------------------------
 
 pub kept-trans : {s t r : State} → Kept s t → Kept t r → Kept s r
-kept-trans p q = record { sized = λ z. q .sized (p .sized z); lower = λ i. le-trans (q .lower i) (p .lower i); visits = q .visits ∙ p .visits }
+kept-trans p q = record { sized = λ z. q .sized (p .sized z); lower = λ i. le-trans (q .lower i) (p .lower i) }
 
 pub formed-kept : {n : ℕ} {s r : State} → Formed n s → Kept s r → Formed n r
 formed-kept f k = record { sized = k .sized (f .sized); below = λ q h. le-trans (k .lower q) (f .below q h) }
@@ -72,13 +72,13 @@ copied p c s =
     }
 
 pub kept-counted : (s : State) → Kept s (counted s)
-kept-counted s = record { sized = λ z. record { line = z .line; off = z .off; cache = z .cache }; lower = λ q. le-refl _; visits = refl }
+kept-counted s = record { sized = λ z. record { line = z .line; off = z .off; cache = z .cache }; lower = λ q. le-refl _ }
 
 pub kept-answering : (o : ObservableOrders) (s : State) → Kept s (answering o s)
-kept-answering o s = record { sized = λ z. record { line = z .line; off = z .off; cache = z .cache }; lower = λ q. le-refl _; visits = refl }
+kept-answering o s = record { sized = λ z. record { line = z .line; off = z .off; cache = z .cache }; lower = λ q. le-refl _ }
 
 pub kept-fielded : (o : ObservableOrders) (s : State) → Kept s (fielded o s)
-kept-fielded o s = record { sized = λ z. record { line = z .line; off = z .off; cache = z .cache }; lower = λ q. le-refl _; visits = refl }
+kept-fielded o s = record { sized = λ z. record { line = z .line; off = z .off; cache = z .cache }; lower = λ q. le-refl _ }
 
 lower-at : (line : List ℕ) (p v : ℕ) → p < length line → v ≤ getD line p 0 → (q : ℕ) (t : Bool) → eqb q p ≡ t → getD (set line p v) q 0 ≤ getD line q 0
 lower-at line p v h k q true i = rw (eqb-true q p i) (rw (getD-set-same line p v 0 h) k)
@@ -89,7 +89,6 @@ kept-copied p c s h k =
     record {
       sized = λ z. record { line = rw length-set (z .line); off = rw length-set (z .off); cache = z .cache };
       lower = λ q. lower-at (s .line) p (getD (s .line) c 0) h k q (eqb q p) refl;
-      visits = refl;
     }
 
 module _ (recs : List ℕ) (n : ℕ) (s : State) where
@@ -105,7 +104,7 @@ module _ (recs : List ℕ) (n : ℕ) (s : State) where
   unfolding eos-of
   eos-field = refl
 
-  pub eos-looks : eos-of recs n s .looks ≡ s .tally .looks
+  pub eos-looks : eos-of recs n s .tally .looks ≡ s .tally .looks
   unfolding eos-of
   eos-looks = refl
 
@@ -183,7 +182,6 @@ module _ (s : State) (p : ℕ) (e : ExprRecord) (v : After) (o field first : Obs
         kept = record {
           sized = λ z. record { line = z .line; off = rw length-set (z .off); cache = rw length-set (z .cache) };
           lower = λ q. le-refl _;
-          visits = refl;
         };
       }
 

@@ -114,7 +114,7 @@ module _ (recs : List ℕ) (n : ℕ) (s : State) (p : ℕ) (based : Based recs n
 pub count-fits : (recs : List ℕ) (n : ℕ) (s : State) (p : ℕ) (allow : Bool) → LookAsks recs n s p allow → s .tally .looks + 1 < 2 ^ 64
 count-fits recs n s p allow r = go (r .fuel) (r .enough) (r .fits)
   where
-    go : (f : ℕ) → getD (s .line) p 0 < f → look f allow p (eos-of recs n s) .1 .looks < 2 ^ 64 → s .tally .looks + 1 < 2 ^ 64
+    go : (f : ℕ) → getD (s .line) p 0 < f → look f allow p (eos-of recs n s) .1 .tally .looks < 2 ^ 64 → s .tally .looks + 1 < 2 ^ 64
     go zero h k = absurd (omega arith)
     go (suc f) h k = rw (← eos-looks recs n s) (lt-of-le-of-lt (up-count f allow p (eos-of recs n s)) k)
 
@@ -264,7 +264,7 @@ module _ (recs : List ℕ) (n : ℕ) (s : State) (p : ℕ) (allow : Bool) (r : L
         pub copy-asks : LookAsks recs n t₁ p allow
         copy-asks = go (r .fuel) (r .enough) (r .fits)
           where
-            go : (f : ℕ) → l < f → look f allow p S .1 .looks < 2 ^ 64 → LookAsks recs n t₁ p allow
+            go : (f : ℕ) → l < f → look f allow p S .1 .tally .looks < 2 ^ 64 → LookAsks recs n t₁ p allow
             go zero h k = absurd (omega arith)
             go (suc f) h k =
                 record {
@@ -329,7 +329,7 @@ module _ (recs : List ℕ) (n : ℕ) (s : State) (p : ℕ) (allow : Bool) (r : L
         pub along-asks : 0 < e .count → AlongAsks recs n (counted s) e b l none-seen 0
         along-asks more = go (r .fuel) (r .enough) (r .fits)
           where
-            go : (f : ℕ) → l < f → look f allow p S .1 .looks < 2 ^ 64 → AlongAsks recs n (counted s) e b l none-seen 0
+            go : (f : ℕ) → l < f → look f allow p S .1 .tally .looks < 2 ^ 64 → AlongAsks recs n (counted s) e b l none-seen 0
             go zero h k = absurd (omega arith)
             go (suc f) h k =
                 record {
@@ -389,14 +389,14 @@ module _ (recs : List ℕ) (n : ℕ) (s : State) (p : ℕ) (allow : Bool) (r : L
                 ≡ (after-of v .answer (look f true node (eos-of recs n (w .state)) .0), look-ended p E (after-of v) (after-of v .answer (look f true node (eos-of recs n (w .state)) .0)) (s .field) (D f .0) (look f true node (eos-of recs n (w .state)) .1))
             look-twice f h = look-walk f h ∙ finish-again (look f) p E (s .field) (D f) (after-of v) twice ∙ rw (second f h)
 
-            ended-looks : (f : ℕ) → l ≤ f → look (suc f) allow p S .1 .looks ≡ look f true node (eos-of recs n (w .state)) .1 .looks
+            ended-looks : (f : ℕ) → l ≤ f → look (suc f) allow p S .1 .tally .looks ≡ look f true node (eos-of recs n (w .state)) .1 .tally .looks
             unfolding look-ended
-            ended-looks f h = ap (λ (x : ObservableOrders × plan.Eos). x .1 .looks) (look-twice f h)
+            ended-looks f h = ap (λ (x : ObservableOrders × plan.Eos). x .1 .tally .looks) (look-twice f h)
 
             again-look : LookAsks recs n (w .state) node true
             again-look = go (r .fuel) (r .enough) (r .fits)
               where
-                go : (f : ℕ) → l < f → look f allow p S .1 .looks < 2 ^ 64 → LookAsks recs n (w .state) node true
+                go : (f : ℕ) → l < f → look f allow p S .1 .tally .looks < 2 ^ 64 → LookAsks recs n (w .state) node true
                 go zero h k = absurd (omega arith)
                 go (suc f) h k =
                     record {

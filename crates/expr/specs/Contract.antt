@@ -28,7 +28,7 @@ pub record LookAsks (recs : List ℕ) (n : ℕ) (s : State) (p : ℕ) (allow : B
   pub within : p < n
   pub fuel : ℕ
   pub enough : getD (s .line) p 0 < fuel
-  pub fits : look fuel allow p (eos-of recs n s) .1 .looks < 2 ^ 64
+  pub fits : look fuel allow p (eos-of recs n s) .1 .tally .looks < 2 ^ 64
 
 -- it is the definition's, at every sufficient fuel
 pub record LookGives (recs : List ℕ) (n : ℕ) (s : State) (p : ℕ) (allow : Bool) (r : State) : Type 0 where
@@ -85,7 +85,7 @@ pub record AlongAsks (recs : List ℕ) (n : ℕ) (s : State) (e : ExprRecord) (b
   pub begun : Begun l i os x
   pub fuel : ℕ
   pub enough : l ≤ fuel
-  pub fits : along-from (look fuel) (record-of e) (before-of b) i os (acc-of (x .acc)) (eos-of recs n s) .2 .looks < 2 ^ 64
+  pub fits : along-from (look fuel) (record-of e) (before-of b) i os (acc-of (x .acc)) (eos-of recs n s) .2 .tally .looks < 2 ^ 64
 
 -- the state after a look along the children, and what was seen of them
 pub record Walked : Type 0 where

@@ -14,7 +14,7 @@ use Rattle.expr.specs.State.{State, eos-of, Falls, Based, Formed, Kept}
 use Rattle.expr.specs.Contract.{looked-of}
 
 pub record Started (line : List ℕ) (off : List Bool) (tally : Tally) (r : State) : Type 0 where
-  pub is : (recs : List ℕ) (n : ℕ) → eos-of recs n r ≡ expr-order-simplifier (arena-of recs line off n) (tally .looks)
+  pub is : (recs : List ℕ) (n : ℕ) → eos-of recs n r ≡ expr-order-simplifier (arena-of recs line off n) tally
   pub line-is : r .line ≡ line
   pub off-is : r .off ≡ off
   pub tally-is : r .tally ≡ tally
@@ -32,7 +32,7 @@ pub record ListAsks (recs : List ℕ) (n : ℕ) (s : State) (nodes : List ℕ) (
   pub few : count ≤ 8
   pub room : length nodes ≡ 8
   pub falls : Falls n (take count nodes)
-  pub fits : simplify-projected-exprs (take count nodes) allow (eos-of recs n s) .1 .looks < 2 ^ 64
+  pub fits : simplify-projected-exprs (take count nodes) allow (eos-of recs n s) .1 .tally .looks < 2 ^ 64
 
 pub record ListGives (recs : List ℕ) (n : ℕ) (s : State) (nodes : List ℕ) (count : ℕ) (allow : Bool) (r : State) : Type 0 where
   pub is : looked-of recs n r ≡ simplify-projected-exprs (take count nodes) allow (eos-of recs n s)

@@ -38,7 +38,7 @@ eos-of recs n s =
       revisit-cache = cache-of (s .cache);
       struct-field-ordering = s .field;
       internally-observed = s .observed;
-      looks = s .tally .looks;
+      tally = s .tally;
     }
 
 -- The base records ---------------------------------------------------------------------------------------------------------------
@@ -73,7 +73,6 @@ pub record Formed (n : ℕ) (s : State) : Type 0 where
 pub record Kept (s r : State) : Type 0 where
   pub sized : Sized s → Sized r
   pub lower : (q : ℕ) → getD (r .line) q 0 ≤ getD (s .line) q 0
-  pub visits : r .tally .visits ≡ s .tally .visits
 
 -- The test for a replacement, over the lines -------------------------------------------------------------------------------------
 

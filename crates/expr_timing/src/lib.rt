@@ -22,7 +22,7 @@ pub extern "C" fn list_looks(
     allow_deordering_top: bool,
 ) -> u64
     requires { ⌜ Read-exprs (now recs) n × (root < n) ⌝ }
-    ensures { λ r. ⌜ r ≡ simplify-projected-exprs (root ∷ []) «allow_deordering_top» (expr-order-simplifier (stored-exprs (now (recs .entry)) n) 0) .1 .looks ⌝ }
+    ensures { λ r. ⌜ r ≡ simplify-projected-exprs (root ∷ []) «allow_deordering_top» (expr-order-simplifier (stored-exprs (now (recs .entry)) n) (record { visits = 0; looks = 0 })) .1 .tally .looks ⌝ }
 {
     size_2048(recs);
     let mut line = own_lines();

@@ -8,12 +8,13 @@ use lib.Dec.{T}
 use lib.ListN.{length, getD}
 use Rattle.plan.specs.declared.ir.IR.{IR}
 use Rattle.plan.specs.Kinds.{ir-number, same-ir}
+use Rattle.plan.specs.FunctionIR.{rust-functions}
 use Rattle.plan.specs.Sheet.{Step, Sheet, done, no-step, step-at, in-step-table}
 use Rattle.plan.specs.Graph.{graph, is-cache}
 use Rattle.plan.specs.declared.rules.Options.{Options}
 use Rattle.plan.specs.declared.rules.Around.{Around}
 use Rattle.plan.specs.declared.rules.Observable.{Observable}
-use Rattle.plan.specs.Visit.{Run, arm, rule, ruling, looked-in, looks-of, one-visit, simplify-ir-node-orders}
+use Rattle.plan.specs.Visit.{Run, arm, rule, ruling, looked-in, looks-of, simplify-ir-node-orders}
 use Rattle.plan.specs.Walks.{begin, down, up, simplify-and-fetch-orderings}
 use Rattle.claims.specs.WellFormed.{WellFormed}
 use Rattle.claims.proofs.Booleans.{T-eq, all-at}
@@ -28,9 +29,9 @@ use Rattle.ir_graph.proofs.UpdateCaches.{first-cache, nothing-updated}
 
 -- A visit ------------------------------------------------------------------------------------------------------------------------
 
-ruled-cache : (s : Options) (e : Around) (o : Observable) → s .kind ≡ IR.Cache → rule s e o .options .kind ≡ IR.Cache
+ruled-cache : (s : Options) (e : Around) (o : Observable) → s .kind ≡ IR.Cache → rule rust-functions s e o .options .kind ≡ IR.Cache
 unfolding arm
-ruled-cache s e o i = ap (λ (k : IR). arm s e o k .options .kind) i ∙ i
+ruled-cache s e o i = ap (λ (k : IR). arm s e o rust-functions k .options .kind) i ∙ i
 
 cache-ruled : (n : ℕ) (r : Run) → same-ir (ruling n r .options .kind) IR.Cache ≡ is-cache (r .steps) n
 unfolding ruling looked-in looks-of
@@ -49,7 +50,7 @@ pub record Same-caches (sent ps : List Step) : Type 0 where
 same-visit : (sent : List Step) (n : ℕ) (ns : List ℕ) (r r′ : Run) → Same-caches sent (r .steps) → simplify-ir-node-orders n r ≡ done r′ → Same-caches sent (r′ .steps)
 same-visit sent n ns r r′ s e =
     record {
-      cache = λ m. step-kept n r e (λ x. same-ir (x .kind) IR.Cache) (λ k v x. refl) (cache-ruled n (one-visit r)) m ∙ s .cache m;
+      cache = λ m. step-kept n r e (λ x. same-ir (x .kind) IR.Cache) (λ k v x. refl) (cache-ruled n r) m ∙ s .cache m;
       inputs = λ m. inputs-kept n r e m ∙ s .inputs m;
     }
 

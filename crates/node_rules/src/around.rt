@@ -6,7 +6,6 @@ ghost use Rattle.plan.specs.Visit.{around};
 ghost use Rattle.node_rules.specs.Held.{around-with, held-edges};
 use plan::rules::Around;
 
-
 fn pick(b: bool, x: bool, y: bool) -> bool
     ensures { λ r. ⌜ r ≡ (if b then x else y) ⌝ }
 {

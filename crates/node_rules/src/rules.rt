@@ -2,6 +2,7 @@
 ghost use mathlib.Core.Path.{_≡_};
 ghost use mathlib.Core.Bool.{false};
 ghost use Rattle.plan.specs.Lists.{if_then_else_};
+ghost use Rattle.plan.specs.FunctionIR.{rust-functions};
 ghost use Rattle.plan.specs.Visit.{rule, arm, ruled, unmaintained-if, first-or-last, select-in, select-out, sort-in, filter-in, filter-out, group-by-in, group-by-out, gather-idxs, gather-out, union-all, map-in, map-out, cache-in, cache-outs, sink-in, allow-deordering-top, join-fails, sink-fails};
 use crate::joins::join_rule;
 use plan::distinct::UniqueKeepStrategy;
@@ -111,7 +112,7 @@ fn any_if(lost: bool, k: UniqueKeepStrategy) -> UniqueKeepStrategy
 }
 
 fn distinct_rule(s: Options, e: Around, o: Observable) -> Ruled
-    ensures { λ r. ⌜ r ≡ arm s e o IR.Distinct ⌝ }
+    ensures { λ r. ⌜ r ≡ arm s e o rust-functions IR.Distinct ⌝ }
 {
     let kind = s.kind;
     let keep = UniqueKeepStrategy::of_number(s.c);
@@ -144,7 +145,7 @@ fn union_rule(s: Options, e: Around, o: Observable) -> Ruled
 
 // It becomes a Union.
 fn merge_sorted_rule(s: Options, e: Around, o: Observable) -> Ruled
-    ensures { λ r. ⌜ r ≡ arm s e o IR.MergeSorted ⌝ }
+    ensures { λ r. ⌜ r ≡ arm s e o rust-functions IR.MergeSorted ⌝ }
 {
     if e.out | (e.in0 & e.in1) {
         let options = Options {
@@ -160,7 +161,7 @@ fn merge_sorted_rule(s: Options, e: Around, o: Observable) -> Ruled
 }
 
 fn map_rule(s: Options, e: Around, o: Observable) -> Ruled
-    ensures { λ r. ⌜ r ≡ ruled s (map-in s e o) false (map-out s e o) ⌝ }
+    ensures { λ r. ⌜ r ≡ ruled s (map-in s e o rust-functions) false (map-out s e o rust-functions) ⌝ }
 {
     let f = FunctionIR::of_number(s.a);
     let equal = f.has_equal_order();
@@ -186,7 +187,7 @@ fn sink_rule(s: Options, e: Around, o: Observable) -> Ruled
 
 // The match: an arm per kind.
 pub fn rule_of(s: Options, e: Around, o: Observable) -> Ruled
-    ensures { λ r. ⌜ r ≡ rule s e o ⌝ }
+    ensures { λ r. ⌜ r ≡ rule rust-functions s e o ⌝ }
 {
     let kind = s.kind;
     match kind {

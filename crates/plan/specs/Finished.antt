@@ -35,8 +35,8 @@ finished-answer r =
       edges = length (exprs-block r ++ steps-block r ++ edges-block r);
       length = length (printed r);
       removed = length (r .removed);
-      visits = r .visits;
-      looks = r .looks;
+      visits = r .tally .visits;
+      looks = r .tally .looks;
     }
 
 -- a refusal alters no byte; a finished sheet stands at the front, and what stood behind it stays

@@ -1,10 +1,12 @@
 -- ExprOrderSimplifier of expr.rs: a look (document 01's term for one call of `rec`), and a list of projected expressions.
-use Prim.Native.Nat.{ℕ, zero, suc, _+_}
+use Prim.Native.Nat.{ℕ, zero, suc}
 use mathlib.Core.Bool.{Bool, true, false, _&&_, _||_, not}
 use mathlib.Core.List.{List, [], _∷_, _++_}
 use mathlib.Core.Option.{Option, none, some}
 use lib.Dec.{eqb}
 use lib.ListN.{getD, set, length, take, drop}
+use Rattle.tally.specs.declared.Tally.{Tally}
+use Rattle.tally.specs.Count.{look-more}
 use Rattle.plan.specs.declared.aexpr.AExpr.{AExpr}
 use Rattle.plan.specs.declared.orders.ObservableOrders.{ObservableOrders}
 use Rattle.plan.specs.Kinds.{same-aexpr}
@@ -13,13 +15,13 @@ use Rattle.plan.specs.Lists.{if_then_else_, yes?, all?, first-last}
 use Rattle.plan.specs.Sheet.{Expr, expr-at}
 use Rattle.plan.specs.Orders.{∅, COLUMN, INDEPENDENT, _∪_, is-empty, ExprOrderAcc, no-orders, add, single}
 
--- what the looks of one visit share, and the run's tally of looks
+-- what the looks of one visit share, and the run's tally
 pub record Eos : Type 0 where
   pub expr-arena : List Expr
   pub revisit-cache : ℕ → Option ObservableOrders  -- a map: the entry of a node, if it has one
   pub struct-field-ordering : ObservableOrders  -- ∅ for the Rust's None, which refusal 9 keeps from being read
   pub internally-observed : ObservableOrders
-  pub looks : ℕ
+  pub tally : Tally
 
 -- Changes of the state ---------------------------------------------------------------------------------------------------
 
@@ -30,7 +32,7 @@ one-look s =
       revisit-cache = s .revisit-cache;
       struct-field-ordering = s .struct-field-ordering;
       internally-observed = s .internally-observed;
-      looks = s .looks + 1;
+      tally = look-more (s .tally);
     }
 
 abbrev pub with-arena : List Expr → Eos → Eos
@@ -40,7 +42,7 @@ with-arena es s =
       revisit-cache = s .revisit-cache;
       struct-field-ordering = s .struct-field-ordering;
       internally-observed = s .internally-observed;
-      looks = s .looks;
+      tally = s .tally;
     }
 
 abbrev pub with-field : ObservableOrders → Eos → Eos
@@ -50,7 +52,7 @@ with-field o s =
       revisit-cache = s .revisit-cache;
       struct-field-ordering = o;
       internally-observed = s .internally-observed;
-      looks = s .looks;
+      tally = s .tally;
     }
 
 abbrev pub internal-observe : ObservableOrders → Eos → Eos
@@ -60,7 +62,7 @@ internal-observe o s =
       revisit-cache = s .revisit-cache;
       struct-field-ordering = s .struct-field-ordering;
       internally-observed = s .internally-observed ∪ o;
-      looks = s .looks;
+      tally = s .tally;
     }
 
 -- the map with an entry more
@@ -75,7 +77,7 @@ cache-output should-cache p o s =
       revisit-cache = if should-cache then with-entry p o (s .revisit-cache) else s .revisit-cache;
       struct-field-ordering = s .struct-field-ordering;
       internally-observed = s .internally-observed;
-      looks = s .looks;
+      tally = s .tally;
     }
 
 -- The kinds, before the looks along the children ---------------------------------------------------------------------------

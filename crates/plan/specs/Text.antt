@@ -36,7 +36,7 @@ unfoldable pub edge-line : Edge → List ℕ
 edge-line d = line 71 (d .consumer ∷ d .slot ∷ digit (not (d .unordered)) ∷ [])
 
 unfoldable pub tally-line : Run → List ℕ
-tally-line r = line 84 (length (r .removed) ∷ r .visits ∷ r .looks ∷ [])
+tally-line r = line 84 (length (r .removed) ∷ r .tally .visits ∷ r .tally .looks ∷ [])
 
 -- the four blocks
 unfoldable pub exprs-block : Run → List ℕ

@@ -1,10 +1,12 @@
 -- SimplifyIRNodeOrder of mod.rs: a visit (document 01's term for one call of simplify_ir_node_orders).
-use Prim.Native.Nat.{ℕ, _+_}
+use Prim.Native.Nat.{ℕ}
 use mathlib.Core.Bool.{Bool, true, false, _&&_, _||_, not}
 use mathlib.Core.List.{List, [], _∷_, _++_, map}
 use mathlib.Core.Option.{none, some}
 use lib.Dec.{eqb}
 use lib.ListN.{getD, set, length}
+use Rattle.tally.specs.declared.Tally.{Tally}
+use Rattle.tally.specs.Count.{visit-more}
 use Rattle.plan.specs.declared.aexpr.AExpr.{AExpr}
 use Rattle.plan.specs.declared.ir.IR.{IR}
 use Rattle.plan.specs.declared.distinct.UniqueKeepStrategy.{UniqueKeepStrategy}
@@ -15,9 +17,9 @@ use Rattle.plan.specs.declared.rules.Around.{Around}
 use Rattle.plan.specs.declared.rules.Observable.{Observable}
 use Rattle.plan.specs.declared.rules.Loosened.{Loosened}
 use Rattle.plan.specs.declared.rules.Ruled.{Ruled}
-use Rattle.plan.specs.Kinds.{same-ir, keep-strategy, keep-strategy-number, join-type, same-join-type, maintain-order, maintain-order-number, same-maintain-order, function-ir}
+use Rattle.plan.specs.Kinds.{same-ir, keep-strategy, keep-strategy-number, join-type, same-join-type, maintain-order, maintain-order-number, same-maintain-order}
 use Rattle.plan.specs.FunctionFlags.{contains}
-use Rattle.plan.specs.FunctionIR.{is-order-producing, observes-input-order, has-equal-order}
+use Rattle.plan.specs.FunctionIR.{Function-order, Functions, rust-functions}
 use Rattle.plan.specs.Lists.{if_then_else_, yes?, all?, select}
 use Rattle.plan.specs.Sheet.{Expr, Step, Outcome, refused, done, expr-at, step-at}
 use Rattle.plan.specs.Graph.{Edge}
@@ -31,8 +33,7 @@ pub record Run : Type 0 where
   pub edges : List Edge
   pub back : List ℕ  -- the places visited with no removal, the last one first: the upward walk goes along them
   pub removed : List ℕ  -- the sorts removed
-  pub visits : ℕ
-  pub looks : ℕ
+  pub tally : Tally
 
 -- What the rules read and give: Options, Around, Observable, Loosened and Ruled are the code's own types (plan/src/rules.rt) --------
 
@@ -165,8 +166,8 @@ module _ (s : Options) (e : Around) (o : Observable) where
   join-rule =
       if same-join-type (join-type (s .a)) JoinType.AsOf then ruled s as-of as-of as-of
       else
-        ruled (record { kind = s .kind; a = s .a; b = maintain-order-number kept-by-rhs; c = s .c; n2 = s .n2 }) join-lhs join-rhs
-        join-all
+      ruled (record { kind = s .kind; a = s .a; b = maintain-order-number kept-by-rhs; c = s .c; n2 = s .n2 }) join-lhs join-rhs
+      join-all
 
   -- Gather: the input's edge stays as it is
   abbrev pub gather-idxs : Bool
@@ -185,15 +186,6 @@ module _ (s : Options) (e : Around) (o : Observable) where
 
   abbrev pub unordered-union : Options
   unordered-union = record { kind = IR.Union; a = 0; b = 0; c = 0; n2 = s .n2 }
-
-  -- MapFunction
-  abbrev pub map-in : Bool
-  map-in = not (observes-input-order (function-ir (s .a))) && (not (has-equal-order (function-ir (s .a))) || e .out)
-
-  abbrev pub map-out : Bool
-  map-out =
-      not (is-order-producing (function-ir (s .a)) (not (e .in0 || map-in)))
-      && ((e .in0 || map-in) || not (has-equal-order (function-ir (s .a))))
 
   -- SimpleProjection: both
   abbrev pub projection-both : Bool
@@ -220,31 +212,43 @@ module _ (s : Options) (e : Around) (o : Observable) where
         n2 = s .n2;
       }
 
-  -- the match: an arm per kind
-  unfoldable pub arm : IR → Ruled
-  arm IR.Scan = ruled s false false false
-  arm IR.UnoptimizedDispatch = ruled s false false false
-  arm IR.Sink = ruled (unmaintained-if sink-in s) sink-in false false
-  arm IR.Select = ruled s select-in false select-out
-  arm IR.HStack = ruled s select-in false select-out
-  arm IR.Sort = ruled (unmaintained-if sort-in s) sort-in false false
-  arm IR.Filter = ruled s filter-in false filter-out
-  arm IR.GroupBy = ruled (unmaintained-if group-by-out s) group-by-in false group-by-out
-  arm IR.Distinct = ruled distinct-options distinct-in false distinct-out
-  arm IR.Join = join-rule
-  arm IR.Gather = ruled s false gather-idxs gather-out
-  arm IR.Union = ruled (unmaintained-if union-all s) union-all union-all union-all
-  arm IR.MergeSorted = ruled (if merge-sorted-all then unordered-union else s) merge-sorted-all merge-sorted-all merge-sorted-all
-  arm IR.MapFunction = ruled s map-in false map-out
-  arm IR.HConcat = ruled s false false (e .ins)
-  arm IR.Slice = ruled s false false (e .ins)
-  arm IR.ExtContext = ruled s false false (e .ins)
-  arm IR.SimpleProjection = ruled s projection-both false projection-both
-  arm IR.Cache = ruled s cache-in false cache-outs
+  -- with the functions that a MapFunction may name
+  module _ (functions : Functions) where
+    -- MapFunction
+    abbrev pub function : Function-order
+    function = functions (s .a)
+
+    abbrev pub map-in : Bool
+    map-in = not (function .observes) && (not (function .equal) || e .out)
+
+    abbrev pub map-out : Bool
+    map-out = not (function .produces (not (e .in0 || map-in))) && ((e .in0 || map-in) || not (function .equal))
+
+    -- the match: an arm per kind
+    unfoldable pub arm : IR → Ruled
+    arm IR.Scan = ruled s false false false
+    arm IR.UnoptimizedDispatch = ruled s false false false
+    arm IR.Sink = ruled (unmaintained-if sink-in s) sink-in false false
+    arm IR.Select = ruled s select-in false select-out
+    arm IR.HStack = ruled s select-in false select-out
+    arm IR.Sort = ruled (unmaintained-if sort-in s) sort-in false false
+    arm IR.Filter = ruled s filter-in false filter-out
+    arm IR.GroupBy = ruled (unmaintained-if group-by-out s) group-by-in false group-by-out
+    arm IR.Distinct = ruled distinct-options distinct-in false distinct-out
+    arm IR.Join = join-rule
+    arm IR.Gather = ruled s false gather-idxs gather-out
+    arm IR.Union = ruled (unmaintained-if union-all s) union-all union-all union-all
+    arm IR.MergeSorted = ruled (if merge-sorted-all then unordered-union else s) merge-sorted-all merge-sorted-all merge-sorted-all
+    arm IR.MapFunction = ruled s map-in false map-out
+    arm IR.HConcat = ruled s false false (e .ins)
+    arm IR.Slice = ruled s false false (e .ins)
+    arm IR.ExtContext = ruled s false false (e .ins)
+    arm IR.SimpleProjection = ruled s projection-both false projection-both
+    arm IR.Cache = ruled s cache-in false cache-outs
 
 -- the step's options after the visit, and the edges loosened
-abbrev pub rule : Options → Around → Observable → Ruled
-rule s e o = arm s e o (s .kind)
+abbrev pub rule : Functions → Options → Around → Observable → Ruled
+rule functions s e o = arm s e o functions (s .kind)
 
 -- Refusals 10 and 11: the keys of a Join and of a partitioned Sink should be elementwise ---------------------------------------
 
@@ -340,14 +344,14 @@ pub record Looked : Type 0 where
   pub observable : Observable
 
 -- expr_order_simplifier!
-abbrev pub expr-order-simplifier : List Expr → ℕ → Eos
-expr-order-simplifier es looks =
-    record { expr-arena = es; revisit-cache = λ _. none; struct-field-ordering = ∅; internally-observed = ∅; looks = looks }
+abbrev pub expr-order-simplifier : List Expr → Tally → Eos
+expr-order-simplifier es tally =
+    record { expr-arena = es; revisit-cache = λ _. none; struct-field-ordering = ∅; internally-observed = ∅; tally = tally }
 
-unfoldable pub looks-of : Step → Around → List Expr → ℕ → Looked
-looks-of s e es looks =
+unfoldable pub looks-of : Step → Around → List Expr → Tally → Looked
+looks-of s e es tally =
     let (aggs, arena) = with-implodes s es in
-    let start = expr-order-simplifier arena looks in
+    let start = expr-order-simplifier arena tally in
     let (exprs-observable, between) = simplify-projected-exprs (s .exprs) (allow-deordering-top (options-of s) e) start in
     let (aggs-observable, end) = simplify-projected-exprs aggs false between in
     record {
@@ -391,8 +395,7 @@ unlink-node n r =
       edges = map (relinked n input) (r .edges);
       back = r .back;
       removed = n ∷ r .removed;
-      visits = r .visits;
-      looks = r .looks;
+      tally = visit-more (r .tally);
     }
 
 -- A visit ----------------------------------------------------------------------------------------------------------------------
@@ -404,11 +407,11 @@ goes n r =
     same-ir (s .kind) IR.Sort && out-edge n (r .edges) .unordered && not (yes? (s .b))
 
 unfoldable pub looked-in : ℕ → Run → Looked
-looked-in n r = looks-of (step-at (r .steps) n) (around n (r .edges)) (r .arena) (r .looks)
+looked-in n r = looks-of (step-at (r .steps) n) (around n (r .edges)) (r .arena) (r .tally)
 
 -- what the step's rule makes of what was observed
 unfoldable pub ruling : ℕ → Run → Ruled
-ruling n r = let l = looked-in n r in rule (options-of (l .step)) (around n (r .edges)) (l .observable)
+ruling n r = let l = looked-in n r in rule rust-functions (options-of (l .step)) (around n (r .edges)) (l .observable)
 
 -- and so of the step
 abbrev pub ruled-step : ℕ → Run → Step
@@ -422,8 +425,7 @@ settled n r =
       edges = map (loosened n (ruling n r .loosened)) (r .edges);
       back = n ∷ r .back;
       removed = r .removed;
-      visits = r .visits;
-      looks = looked-in n r .end .looks;
+      tally = visit-more (looked-in n r .end .tally);
     }
 
 -- 10, 11, or 0 for neither
@@ -437,17 +439,5 @@ refusal-in n r =
 unfoldable pub settle : ℕ → Run → Outcome Run
 settle n r = if eqb (refusal-in n r) 0 then done (settled n r) else refused (refusal-in n r)
 
-abbrev pub one-visit : Run → Run
-one-visit r =
-    record {
-      arena = r .arena;
-      steps = r .steps;
-      edges = r .edges;
-      back = r .back;
-      removed = r .removed;
-      visits = r .visits + 1;
-      looks = r .looks;
-    }
-
 unfoldable pub simplify-ir-node-orders : ℕ → Run → Outcome Run
-simplify-ir-node-orders n r = if goes n r then done (unlink-node n (one-visit r)) else settle n (one-visit r)
+simplify-ir-node-orders n r = if goes n r then done (unlink-node n r) else settle n r

@@ -17,8 +17,7 @@ begin sh =
       edges = graph (sh .steps) .1;
       back = [];
       removed = [];
-      visits = 0;
-      looks = 0;
+      tally = record { visits = 0; looks = 0 };
     }
 
 -- along the visiting list

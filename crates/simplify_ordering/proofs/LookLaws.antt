@@ -32,7 +32,7 @@ falls-below : (n : ℕ) (xs : List ℕ) → ((q : ℕ) → List·Memᴰ q xs →
 falls-below n xs there = record { child = λ k h. there (getD xs k 0) (mem-at xs k 0 h) }
 
 module _ (recs line : List ℕ) (off : List Bool) (n : ℕ) (tally : Tally) (xs ys : List ℕ) (exprs aggs : Entries) (allow : Bool)
-    (ask : Lists-ask recs line off n (tally .looks) xs ys exprs aggs allow) (s : State) (started : Started line off tally s) where
+    (ask : Lists-ask recs line off n tally xs ys exprs aggs allow) (s : State) (started : Started line off tally s) where
   abbrev es : List Expr
   es = arena-of recs line off n
 
@@ -60,7 +60,7 @@ module _ (recs line : List ℕ) (off : List Bool) (n : ℕ) (tally : Tally) (xs 
       }
 
   module _ (b : State) (g : ListGives recs n s (exprs .nodes) (exprs .count) allow b) where
-    between-is : looked-of recs n b ≡ first xs allow es (tally .looks)
+    between-is : looked-of recs n b ≡ first xs allow es tally
     between-is = rw (ask .exprs-are .is, started .is recs n) at (g .is)
 
     between-formed : Formed n b
@@ -70,7 +70,7 @@ module _ (recs line : List ℕ) (off : List Bool) (n : ℕ) (tally : Tally) (xs 
           below = λ q h. omega (arith, g .kept .lower q, start-formed .below q h);
         }
 
-    between-eos : eos-of recs n b ≡ first xs allow es (tally .looks) .1
+    between-eos : eos-of recs n b ≡ first xs allow es tally .1
     between-eos = ap (λ (p : ObservableOrders × plan.Eos). p .1) between-is
 
     pub second-asks : ListAsks recs n b (aggs .nodes) (aggs .count) false
@@ -85,10 +85,10 @@ module _ (recs line : List ℕ) (off : List Bool) (n : ℕ) (tally : Tally) (xs 
         }
 
     module _ (t : State) (h : ListGives recs n b (aggs .nodes) (aggs .count) false t) where
-      end-is : looked-of recs n t ≡ second xs ys allow es (tally .looks)
+      end-is : looked-of recs n t ≡ second xs ys allow es tally
       end-is = rw (ask .aggs-are .is, between-eos) at (h .is)
 
-      end-eos : eos-of recs n t ≡ second xs ys allow es (tally .looks) .1
+      end-eos : eos-of recs n t ≡ second xs ys allow es tally .1
       end-eos = ap (λ (p : ObservableOrders × plan.Eos). p .1) end-is
 
       pub lists-given : Lists-give recs line off n tally xs ys allow (t .line) (t .off)
@@ -108,8 +108,7 @@ module _ (recs line : List ℕ) (off : List Bool) (n : ℕ) (tally : Tally) (xs 
             exprs = ap (λ (p : ObservableOrders × plan.Eos). p .0) between-is;
             aggs = ap (λ (p : ObservableOrders × plan.Eos). p .0) end-is;
             internal = ap (λ (x : plan.Eos). x .internally-observed) end-eos;
-            looks = ap (λ (x : plan.Eos). x .looks) end-eos;
-            visits = h .kept .visits ∙ g .kept .visits ∙ ap (λ (x : Tally). x .visits) (started .tally-is);
+            tally-is = ap (λ (x : plan.Eos). x .tally) end-eos;
             exprs-kept = refl;
           }
 
@@ -129,13 +128,13 @@ pub same-step : (ps : List Step) (i : ℕ) → ps ≡ set ps i (with-aggs (step-
 same-step ps i = sym (set-getD ps i no-step)
 
 -- there is room for the Implodes
-pub start-room : (s : Step) (e : Around) (es : List Expr) (looks : ℕ) → Listed (looks-of s e es looks) → length (with-implodes s es .1) ≤ 128
+pub start-room : (s : Step) (e : Around) (es : List Expr) (looks : Tally) → Listed (looks-of s e es looks) → length (with-implodes s es .1) ≤ 128
 unfolding looks-of
 start-room s e es looks l = l .room
 
 -- es is the arena before the Implodes, ps are the steps; with them they are those of recs, line, off and of steps
 module _ (ps : List Step) (i n : ℕ) (e : Around) (es : List Expr) (tally : Tally) (steps recs line : List ℕ) (off : List Bool) (m : ℕ)
-    (here : i < length ps) (listed : Listed (looks-of (step-at ps i) e es (tally .looks)))
+    (here : i < length ps) (listed : Listed (looks-of (step-at ps i) e es tally))
     (arena-is : arena-of recs line off m ≡ with-implodes (step-at ps i) es .1)
     (steps-are : stored-steps steps n ≡ set ps i (with-aggs (with-implodes (step-at ps i) es .0) (step-at ps i)))
     (held : Arena-held recs line off m) (steps-held : Steps-held steps n)
@@ -145,7 +144,7 @@ module _ (ps : List Step) (i n : ℕ) (e : Around) (es : List Expr) (tally : Tal
   s = step-at ps i
 
   abbrev l : Visit.Looked
-  l = looks-of s e es (tally .looks)
+  l = looks-of s e es tally
 
   step-now : step-at (stored-steps steps n) i ≡ with-aggs (with-implodes s es .0) s
   step-now = ap (λ (x : List Step). step-at x i) steps-are ∙ getD-set-same ps i (with-aggs (with-implodes s es .0) s) no-step here
@@ -159,7 +158,7 @@ module _ (ps : List Step) (i n : ℕ) (e : Around) (es : List Expr) (tally : Tal
   length-now : length (with-implodes s es .1) ≡ m
   length-now = ap length (sym arena-is) ∙ length-arena recs line off m
 
-  pub lists-asked : Lists-ask recs line off m (tally .looks) (take (exprs .count) (exprs .nodes)) (take (aggs .count) (aggs .nodes)) exprs aggs allow
+  pub lists-asked : Lists-ask recs line off m tally (take (exprs .count) (exprs .nodes)) (take (aggs .count) (aggs .nodes)) exprs aggs allow
   unfolding looks-of
   lists-asked =
       rw (xs-are, ys-are, allow-is)
@@ -185,5 +184,5 @@ module _ (ps : List Step) (i n : ℕ) (e : Around) (es : List Expr) (tally : Tal
         steps-are = steps-are;
         steps-held = steps-held;
         observable = rw (rw arena-is at (h .exprs), rw arena-is at (h .aggs), rw arena-is at (h .internal));
-        looks = rw arena-is at (h .looks);
+        tally-is = rw arena-is at (h .tally-is);
       }

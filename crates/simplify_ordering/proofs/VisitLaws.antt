@@ -1,7 +1,7 @@
 -- A visit as the definition has it, from what the code of its stages gives.
 use mathlib.Core.Path.{_≡_, ap, _∙_}
 use mathlib.Core.Logic.{_≢_}
-use Prim.Native.Nat.{ℕ, _+_, _*_, _≤_, _<_}
+use Prim.Native.Nat.{ℕ, _+_, _*_, _≤_, _<_, _^_}
 use native.Mathlib.Omega.{arith}
 use native.Mathlib.Nat.{le-trans}
 use mathlib.Core.Bool.{Bool, true, false, _&&_, not}
@@ -12,14 +12,16 @@ use lib.Seq.{set-set, getD-set-same}
 use borrow.Author.Tests.{eq-eqb, ne-eqb}
 use Rattle.plan.specs.declared.ir.IR.{IR}
 use Rattle.plan.specs.Kinds.{same-ir}
+use Rattle.plan.specs.FunctionIR.{rust-functions}
 use Rattle.plan.specs.Lists.{yes?}
 use Rattle.plan.specs.Sheet.{Expr, Step, no-step, refused, done, step-at}
 use Rattle.plan.specs.Graph.{Edge}
-use Rattle.plan.specs.Visit.{Run, Looked, around, options-of, with-options, looks-of, looked-in, rule, ruling, refusal-in, settled, settle, goes, unlink-node, one-visit, simplify-ir-node-orders}
+use Rattle.plan.specs.Visit.{Run, Looked, around, options-of, with-options, looks-of, looked-in, rule, ruling, refusal-in, settled, settle, goes, unlink-node, simplify-ir-node-orders}
 use Rattle.plan.specs.Visit as Visit
 use Rattle.plan.specs.Visit.{no-edge}
 use Rattle.storage.proofs.Laws.{length-table, table-at, length-steps}
 use Rattle.tally.specs.declared.Tally.{Tally}
+use Rattle.tally.specs.Count.{visit-more}
 use Rattle.plan.specs.declared.rules.Options.{Options}
 use Rattle.plan.specs.declared.rules.Around.{Around}
 use Rattle.plan.specs.declared.rules.Observable.{Observable}
@@ -30,19 +32,20 @@ use Rattle.node_rules.proofs.StepLaws.{its-n1}
 use Rattle.node_rules.proofs.UnlinkLaws.{first-input}
 use Rattle.claims.proofs.Stays.{goes-sort}
 use Rattle.claims.proofs.Counts.{true-of}
+use Rattle.claims.proofs.VisitsKept.{looks-visits}
 use Rattle.simplify_ordering.proofs.ImplodesLaws.{longer-start}
 use Rattle.claims.specs.Visitable.{Visitable}
 
 -- the state of a run
-abbrev pub state : List Expr → List Step → List Edge → List ℕ → List ℕ → ℕ → ℕ → Run
-state es ps ds back removed visits looks =
-    record { arena = es; steps = ps; edges = ds; back = back; removed = removed; visits = visits; looks = looks }
+abbrev pub state : List Expr → List Step → List Edge → List ℕ → List ℕ → Tally → Run
+state es ps ds back removed tally =
+    record { arena = es; steps = ps; edges = ds; back = back; removed = removed; tally = tally }
 
 -- A visit that removes nothing ---------------------------------------------------------------------------------------------------------
 
-module _ (es : List Expr) (ps : List Step) (ds : List Edge) (n : ℕ) (visits looks : ℕ) (here : n < length ps) where
+module _ (es : List Expr) (ps : List Step) (ds : List Edge) (n : ℕ) (tally : Tally) (here : n < length ps) where
   abbrev l : Looked
-  l = looks-of (step-at ps n) (around n ds) es looks
+  l = looks-of (step-at ps n) (around n ds) es tally
 
   -- ps₁ are the steps after the looks
   module _ (ps₁ : List Step) (steps-are : ps₁ ≡ set ps n (l .step)) where
@@ -55,26 +58,26 @@ module _ (es : List Expr) (ps : List Step) (ds : List Edge) (n : ℕ) (visits lo
 
     -- o is what was observed, k the number that the code gave
     module _ (o : Observable) (seen : o ≡ l .observable) (k : ℕ) (number : k ≡ refusal-number (options-of (step-at ps₁ n)) o) (back removed : List ℕ) where
-      number-is : k ≡ refusal-in n (state es ps ds back removed visits looks)
+      number-is : k ≡ refusal-in n (state es ps ds back removed tally)
       unfolding refusal-in looked-in
       number-is = number ∙ rw (step-now, seen)
 
-      pub settle-refused : k ≢ 0 → settle n (state es ps ds back removed visits looks) ≡ refused k
+      pub settle-refused : k ≢ 0 → settle n (state es ps ds back removed tally) ≡ refused k
       unfolding settle
       settle-refused h = rw (← number-is, ne-eqb k 0 h)
 
-      pub settle-done : k ≡ 0 → (ps₂ : List Step) (ds₂ : List Edge) (es₂ : List Expr) (visits₂ looks₂ : ℕ) → es₂ ≡ l .end .expr-arena → visits₂ ≡ visits
-          → looks₂ ≡ l .end .looks → Ruled-by n (around n ds) o ps₁ ds ps₂ ds₂
-          → settle n (state es ps ds back removed visits looks) ≡ done (state es₂ ps₂ ds₂ (n ∷ back) removed visits₂ looks₂)
+      pub settle-done : k ≡ 0 → (ps₂ : List Step) (ds₂ : List Edge) (es₂ : List Expr) (tally₂ : Tally) → es₂ ≡ l .end .expr-arena → tally₂ ≡ visit-more (l .end .tally)
+          → Ruled-by n (around n ds) o ps₁ ds ps₂ ds₂
+          → settle n (state es ps ds back removed tally) ≡ done (state es₂ ps₂ ds₂ (n ∷ back) removed tally₂)
       unfolding settle settled ruling looked-in
-      settle-done h ps₂ ds₂ es₂ visits₂ looks₂ arena-is visits-are looks-are ruled =
-          let then : Step → Step = λ s. with-options (rule (options-of s) (around n ds) o .options) s in
-          let steps-then : ps₂ ≡ set ps n (with-options (rule (options-of (l .step)) (around n ds) (l .observable) .options) (l .step)) =
+      settle-done h ps₂ ds₂ es₂ tally₂ arena-is tally-is ruled =
+          let then : Step → Step = λ s. with-options (rule rust-functions (options-of s) (around n ds) o .options) s in
+          let steps-then : ps₂ ≡ set ps n (with-options (rule rust-functions (options-of (l .step)) (around n ds) (l .observable) .options) (l .step)) =
           ruled .steps ∙ ap (λ (x : List Step). set x n (then (step-at ps₁ n))) steps-are
           ∙ set-set ps n (l .step) (then (step-at ps₁ n)) ∙ rw (step-now, seen) in
-          let edges-then : ds₂ ≡ map (Visit.loosened n (rule (options-of (l .step)) (around n ds) (l .observable) .loosened)) ds =
+          let edges-then : ds₂ ≡ map (Visit.loosened n (rule rust-functions (options-of (l .step)) (around n ds) (l .observable) .loosened)) ds =
           ruled .edges ∙ rw (step-now, seen) in
-          rw (← number-is, eq-eqb k 0 h, steps-then, edges-then, arena-is, visits-are, looks-are)
+          rw (← number-is, eq-eqb k 0 h, steps-then, edges-then, arena-is, tally-is)
 
 -- what the code's test reads, of its own records
 pub tests-read : (ps : List Step) (ds : List Edge) (n : ℕ) (s : Options) (e : Around) → s ≡ options-of (step-at ps n) → e ≡ around n ds
@@ -86,38 +89,38 @@ tests-read ps ds n s e p q g t =
 
 -- A visit that removes, and the choice between the two -----------------------------------------------------------------------------------
 
-module _ (es : List Expr) (ps : List Step) (ds : List Edge) (n visits looks : ℕ) where
+module _ (es : List Expr) (ps : List Step) (ds : List Edge) (n : ℕ) (tally : Tally) where
   -- g is what the code's test gives
   module _ (g : Bool) (tests : g ≡ (same-ir (step-at ps n .kind) IR.Sort && around n ds .out && not (yes? (step-at ps n .b)))) (back removed : List ℕ) where
-    pub goes-is : g ≡ goes n (state es ps ds back removed visits looks)
+    pub goes-is : g ≡ goes n (state es ps ds back removed tally)
     unfolding goes around
     goes-is = tests
 
-    -- the tally after the visit is counted
-    module _ (visits₂ looks₂ : ℕ) (one : visits₂ ≡ visits + 1) (same : looks₂ ≡ looks) where
-      pub goes-on : g ≡ false
-          → simplify-ir-node-orders n (state es ps ds back removed visits looks) ≡ settle n (state es ps ds back removed visits₂ looks₂)
-      unfolding simplify-ir-node-orders
-      goes-on h = rw (← goes-is, h, one, same)
+    pub goes-on : g ≡ false → simplify-ir-node-orders n (state es ps ds back removed tally) ≡ settle n (state es ps ds back removed tally)
+    unfolding simplify-ir-node-orders
+    goes-on h = rw (← goes-is, h)
 
-      pub goes-away : g ≡ true → (ps₂ : List Step) (ds₂ : List Edge) → Unlinked n ps ds ps₂ ds₂
-          → simplify-ir-node-orders n (state es ps ds back removed visits looks) ≡ done (state es ps₂ ds₂ back (n ∷ removed) visits₂ looks₂)
-      unfolding simplify-ir-node-orders unlink-node
-      goes-away h ps₂ ds₂ u = rw (← goes-is, h, u .steps, u .edges, one, same)
+    pub goes-away : g ≡ true → (ps₂ : List Step) (ds₂ : List Edge) (tally₂ : Tally) → tally₂ ≡ visit-more tally → Unlinked n ps ds ps₂ ds₂
+        → simplify-ir-node-orders n (state es ps ds back removed tally) ≡ done (state es ps₂ ds₂ back (n ∷ removed) tally₂)
+    unfolding simplify-ir-node-orders unlink-node
+    goes-away h ps₂ ds₂ tally₂ one u = rw (← goes-is, h, u .steps, u .edges, one)
 
 -- What the stages ask for, out of what a visit may lean on -------------------------------------------------------------------------------
 
 pub listed-of : (n : ℕ) (r : Run) (e : Around) → e ≡ around n (r .edges) → Listed (looked-in n r)
-    → Listed (looks-of (step-at (r .steps) n) e (r .arena) (r .looks))
+    → Listed (looks-of (step-at (r .steps) n) e (r .arena) (r .tally))
 unfolding looked-in
 listed-of n r e i l = rw i l
 
--- with one visit more on the tally
-pub settle-asked : (n : ℕ) (r r′ : Run) → Visitable n r → r′ ≡ one-visit r → Settle-asks n r′
+-- the looks add no visit
+pub visit-fits : (s : Step) (e : Around) (es : List Expr) (t t′ : Tally) → t′ ≡ looks-of s e es t .end .tally → t .visits + 1 < 2 ^ 64
+    → t′ .visits + 1 < 2 ^ 64
+visit-fits s e es t t′ i h = omega (arith, h, ap (λ (x : Tally). x .visits) i, looks-visits s e es t)
+
+pub settle-asked : (n : ℕ) (r : Run) → Visitable n r → Settle-asks n r
 unfolding looked-in looks-of
-settle-asked n r r′ v i =
-    rw i
-    (record {
+settle-asked n r v =
+    record {
       aggs = v .aggs;
       listed =
           record {
@@ -127,7 +130,8 @@ settle-asked n r r′ v i =
             between = v .between;
             end = v .looks;
           };
-    })
+      visits = v .visits;
+    }
 
 module _ (recs line : List ℕ) (off : List Bool) (m : ℕ) (steps : List ℕ) (n : ℕ) (consumer slot producer : List ℕ) (unordered : List Bool) (edges : ℕ) (tally : Tally)
     (held : Run-held recs line off m steps n producer unordered edges) (i : ℕ)

@@ -10,7 +10,7 @@ use lib.ListN.{length, getD, set, take, drop, length-set, drop-of-length-le}
 use lib.Seq.{drop-cons, getD-set-same, drop-set-lt}
 use Rattle.plan.specs.Lists.{if_then_else_}
 use Rattle.plan.specs.Sheet.{Outcome, refused, done, _then_}
-use Rattle.plan.specs.Visit.{Run, goes, settle, refusal-in, unlink-node, one-visit, looked-in, simplify-ir-node-orders}
+use Rattle.plan.specs.Visit.{Run, goes, settle, refusal-in, unlink-node, looked-in, simplify-ir-node-orders}
 use Rattle.plan.specs.Visit as Visit
 use Rattle.plan.specs.Walks.{walk}
 use Rattle.claims.specs.Visitable.{Visitable}
@@ -36,27 +36,27 @@ clash h = let z : _≡_ {A = ℕ} 1 0 = ap (λ (b : Bool). if b then 1 else 0) h
 
 pub refused-number : (n : ℕ) (r : Run) (k : ℕ) → simplify-ir-node-orders n r ≡ refused k → k ≢ 0
 unfolding simplify-ir-node-orders settle
-refused-number n r k e zero = by (goes n r) (eqb (refusal-in n (one-visit r)) 0) refl e
+refused-number n r k e zero = by (goes n r) (eqb (refusal-in n r) 0) refl e
   where
-    by : (a b : Bool) → eqb (refusal-in n (one-visit r)) 0 ≡ b
-        → (if a then done (unlink-node n (one-visit r)) else if b then done (Visit.settled n (one-visit r)) else refused (refusal-in n (one-visit r))) ≡ refused k
+    by : (a b : Bool) → eqb (refusal-in n r) 0 ≡ b
+        → (if a then done (unlink-node n r) else if b then done (Visit.settled n r) else refused (refusal-in n r)) ≡ refused k
         → ⊥
     by true b i e = not-refused e
     by false true i e = not-refused e
     by false false i e =
-        let z : refusal-in n (one-visit r) ≡ 0 = ap number-of e ∙ zero in
+        let z : refusal-in n r ≡ 0 = ap number-of e ∙ zero in
         clash (sym (ap (λ (m : ℕ). eqb m 0) z) ∙ i)
 
 -- Along the places ---------------------------------------------------------------------------------------------------------------------
 
 -- a visit reads neither of the two lists
-pub visitable-apart : (n : ℕ) (r r′ : Run) → r′ .arena ≡ r .arena → r′ .steps ≡ r .steps → r′ .edges ≡ r .edges → r′ .visits ≡ r .visits → r′ .looks ≡ r .looks
+pub visitable-apart : (n : ℕ) (r r′ : Run) → r′ .arena ≡ r .arena → r′ .steps ≡ r .steps → r′ .edges ≡ r .edges → r′ .tally ≡ r .tally
     → Visitable n r → Visitable n r′
 unfolding looked-in goes
-visitable-apart n r r′ a s e v l k =
+visitable-apart n r r′ a s e l k =
     record {
       step = rw s (k .step);
-      visits = rw v (k .visits);
+      visits = rw l (k .visits);
       exprs = rw (a, s) (k .exprs);
       aggs = rw (a, s) (k .aggs);
       imploded = rw (a, s, e, l) (k .imploded);

@@ -1,12 +1,13 @@
 -- A run as the code holds it, and what a visit asks and gives.
 use mathlib.Core.Path.{_≡_}
-use Prim.Native.Nat.{ℕ, _≤_, _<_}
+use Prim.Native.Nat.{ℕ, _+_, _≤_, _<_, _^_}
 use mathlib.Core.Bool.{Bool}
 use mathlib.Core.List.{List, _∷_, map, List·Memᴰ}
 use lib.ListN.{length, set}
 use Rattle.plan.specs.declared.rules.Options.{Options}
 use Rattle.plan.specs.declared.rules.Around.{Around}
 use Rattle.plan.specs.declared.rules.Observable.{Observable}
+use Rattle.plan.specs.FunctionIR.{rust-functions}
 use Rattle.plan.specs.Lists.{if_then_else_}
 use Rattle.plan.specs.Sheet.{Step, Outcome, refused, done, step-at}
 use Rattle.plan.specs.Graph.{Edge}
@@ -29,8 +30,7 @@ run-of recs line off m steps n consumer slot producer unordered edges back remov
       edges = held-edges consumer slot producer unordered edges;
       back = back;
       removed = removed;
-      visits = tally .visits;
-      looks = tally .looks;
+      tally = tally;
     }
 
 pub record Run-held (recs line : List ℕ) (off : List Bool) (m : ℕ) (steps : List ℕ) (n : ℕ) (producer : List ℕ) (unordered : List Bool) (edges : ℕ) : Type 0 where
@@ -48,8 +48,8 @@ refusal-number s o = if join-fails s o then 10 else if sink-fails s o then 11 el
 
 -- ps and ds are the steps and the edges before, ps′ and ds′ those after
 pub record Ruled-by (n : ℕ) (e : Around) (o : Observable) (ps : List Step) (ds : List Edge) (ps′ : List Step) (ds′ : List Edge) : Type 0 where
-  pub steps : ps′ ≡ set ps n (with-options (rule (options-of (step-at ps n)) e o .options) (step-at ps n))
-  pub edges : ds′ ≡ map (loosened n (rule (options-of (step-at ps n)) e o .loosened)) ds
+  pub steps : ps′ ≡ set ps n (with-options (rule rust-functions (options-of (step-at ps n)) e o .options) (step-at ps n))
+  pub edges : ds′ ≡ map (loosened n (rule rust-functions (options-of (step-at ps n)) e o .loosened)) ds
 
 -- The answer of a visit ---------------------------------------------------------------------------------------------------------------
 
@@ -63,3 +63,4 @@ visited-of (Visited.Refused k) n after back removed = refused k
 pub record Settle-asks (n : ℕ) (r : Run) : Type 0 where
   pub aggs : (q : ℕ) → List·Memᴰ q (step-at (r .steps) n .aggs) → q < length (r .arena)
   pub listed : Listed (looked-in n r)
+  pub visits : r .tally .visits + 1 < 2 ^ 64

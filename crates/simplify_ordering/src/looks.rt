@@ -39,7 +39,7 @@ fn look_at_lists(
     aggs: Entries,
     allow: bool,
 ) -> Looked
-    requires { ⌜ Lists-ask (now recs) (now line) (now off) n (tally .looks) (take (exprs .count) (exprs .nodes)) (take (aggs .count) (aggs .nodes)) exprs aggs allow ⌝ }
+    requires { ⌜ Lists-ask (now recs) (now line) (now off) n tally (take (exprs .count) (exprs .nodes)) (take (aggs .count) (aggs .nodes)) exprs aggs allow ⌝ }
     ensures { λ r. ⌜ Lists-give (now (recs .entry)) (now (line .entry)) (now (off .entry)) n tally (take (exprs .count) (exprs .nodes)) (take (aggs .count) (aggs .nodes)) allow (now (line .exit)) (now (off .exit)) r ⌝ }
 {
     let mut cache: [u8; 128] = [0; 128];
@@ -104,9 +104,8 @@ pub fn looks_of(
     requires { ⌜ Steps-held (now steps) «n_steps» × (i < «n_steps») ⌝ }
     requires { ⌜ Arena-held (now recs) (now line) (now off) n × (s ≡ options-of (step-at (stored-steps (now steps) «n_steps») i)) ⌝ }
     requires { ⌜ ((q : ℕ) → List·Memᴰ q (step-at (stored-steps (now steps) «n_steps») i .aggs) → q < n) ⌝ }
-    requires { ⌜ Listed (looks-of (step-at (stored-steps (now steps) «n_steps») i) e (arena-of (now recs) (now line) (now off) n) (tally .looks)) ⌝ }
-    ensures { λ r. ⌜ Looks-give (looks-of (step-at (stored-steps (now (steps .entry)) «n_steps») i) e (arena-of (now (recs .entry)) (now (line .entry)) (now (off .entry)) n) (tally .looks)) i «n_steps» (stored-steps (now (steps .entry)) «n_steps») (now (steps .exit)) (now (recs .exit)) (now (line .exit)) (now (off .exit)) r ⌝ }
-    ensures { λ r. ⌜ r .tally .visits ≡ tally .visits ⌝ }
+    requires { ⌜ Listed (looks-of (step-at (stored-steps (now steps) «n_steps») i) e (arena-of (now recs) (now line) (now off) n) tally) ⌝ }
+    ensures { λ r. ⌜ Looks-give (looks-of (step-at (stored-steps (now (steps .entry)) «n_steps») i) e (arena-of (now (recs .entry)) (now (line .entry)) (now (off .entry)) n) tally) i «n_steps» (stored-steps (now (steps .entry)) «n_steps») (now (steps .exit)) (now (recs .exit)) (now (line .exit)) (now (off .exit)) r ⌝ }
 {
     let kind = s.kind;
     let m = with_implodes(steps, n_steps, i, recs, line, off, n, kind);

@@ -100,7 +100,6 @@ fn settle(
     let i = n as usize;
     let l = looks_of(steps, n_steps, i, recs, line, off, exprs, tally, s, e);
     let o = l.observable;
-    let t = l.tally;
     let k = settle_by_rule(
         steps,
         n_steps,
@@ -118,13 +117,14 @@ fn settle(
         return Visit {
             visited: Visited::Refused(k),
             exprs: l.exprs,
-            tally: t,
+            tally: tally,
         };
     }
+    let t = l.tally;
     Visit {
         visited: Visited::Settled,
         exprs: l.exprs,
-        tally: t,
+        tally: visited(t),
     }
 }
 
@@ -159,7 +159,6 @@ pub fn simplify_ir_node_orders(
     let i = n as usize;
     let s = options_of(steps, n_steps, i);
     let e = around_step(consumer, slot, producer, unordered, edges, n);
-    let t = visited(tally);
     if goes(s, e) {
         unlink_node(
             steps,
@@ -174,7 +173,7 @@ pub fn simplify_ir_node_orders(
         return Visit {
             visited: Visited::Removed,
             exprs,
-            tally: t,
+            tally: visited(tally),
         };
     }
     settle(
@@ -190,7 +189,7 @@ pub fn simplify_ir_node_orders(
         unordered,
         edges,
         n,
-        t,
+        tally,
         s,
         e,
     )

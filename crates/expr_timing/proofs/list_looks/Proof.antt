@@ -30,12 +30,12 @@ one-below n root l h = record { child = child }
 -- from the stored records, the looks are the definition's
 looks-are : (recs : List ℕ) (n : ℕ) (line : List ℕ) (off : List Bool) → arena-of recs line off n ≡ stored-exprs recs n → (start : State)
     → Started line off (record { visits = 0; looks = 0 }) start → (root : ℕ) (l : List ℕ) (allow : Bool) (r : State) → ListGives recs n start (root ∷ l) 1 allow r
-    → r .tally .looks ≡ simplify-projected-exprs (root ∷ []) allow (expr-order-simplifier (stored-exprs recs n) 0) .1 .looks
+    → r .tally .looks ≡ simplify-projected-exprs (root ∷ []) allow (expr-order-simplifier (stored-exprs recs n) (record { visits = 0; looks = 0 })) .1 .tally .looks
 unfolding eos-of
 looks-are recs n line off same start started root l allow r g =
-    ap (λ (p : ObservableOrders × plan.Eos). p .1 .looks) (g .is)
-    ∙ ap (λ (s : plan.Eos). simplify-projected-exprs (root ∷ []) allow s .1 .looks)
-    (started .is recs n ∙ ap (λ (es : List Expr). expr-order-simplifier es 0) same)
+    ap (λ (p : ObservableOrders × plan.Eos). p .1 .tally .looks) (g .is)
+    ∙ ap (λ (s : plan.Eos). simplify-projected-exprs (root ∷ []) allow s .1 .tally .looks)
+    (started .is recs n ∙ ap (λ (es : List Expr). expr-order-simplifier es (record { visits = 0; looks = 0 })) same)
 
 size-2048-requires : tie.Need-size-2048-requires
 size-2048-requires c κs = search needs

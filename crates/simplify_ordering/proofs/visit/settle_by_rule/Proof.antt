@@ -4,6 +4,7 @@ use Rattle.plan.specs.declared.rules.Options.{Options}
 use Rattle.plan.specs.declared.rules.Ruled.{Ruled}
 use Rattle.plan.specs.Visit.{with-options, rule, loosened}
 use Rattle.storage.specs.Stored.{stored-steps}
+use Rattle.plan.specs.FunctionIR.{rust-functions}
 use Rattle.plan.specs.Sheet.{step-at}
 use lib.ListN.{set}
 use mathlib.Core.List.{map}
@@ -42,7 +43,7 @@ returns-2 c =
     let here = r .before .before .pre .0 .2 in
     let ps = stored-steps (now (a .steps)) (a .n-steps) in
     let ds = held-edges (now (a .consumer)) (now (a .slot)) (now (a .producer)) (now (a .unordered)) (a .edges) in
-    let reads = c .before .before .before .before .before .before .rule-of .ensures ∙ ap (λ (x : Options). rule x (a .e) (a .o)) here in (
+    let reads = c .before .before .before .before .before .before .rule-of .ensures ∙ ap (λ (x : Options). rule rust-functions x (a .e) (a .o)) here in (
       sym (r .if1 .left) ∙ r .before .refusal-of .ensures ∙ ap (λ (x : Options). refusal-number x (a .o)) here,
       (
         (λ _. record {

@@ -48,7 +48,7 @@ visit-place-requires c κs =
     let next = rest-next (now (a .list)) (l .i) (a .to) (c .before .before .before .before .before .before .before .before .before .before .loop-test .taken) (omega (arith, c .before .before .before .before .before .before .before .before .before .before .before .before .pre .1 .1 .1, c .before .before .before .before .before .before .before .before .before .before .before .before .pre .1 .1 .2)) in
     let g′ = subst (λ (x : List ℕ). Walking ns x before after (a .w) (l .r) (drop (l .r .at) (l .back))) next g in
     let v = place-visitable ns before (a .w) after (l .r) (drop (l .r .at) (l .back)) n _ g′ (c .before .before .before .before .before .before .before .before .if1 .left) in
-    (l .inv .2, (visitable-apart n (after (drop (l .r .at) (l .back) ++ g′ .back) (g′ .gone ++ g′ .removed)) (after [] []) refl refl refl refl refl v, (omega (arith, l .inv .6, c .before .before .before .before .before .before .before .before .before .before .loop-test .taken, c .before .before .before .before .before .before .before .before .before .before .before .before .pre .1 .1 .1), l .inv .5, l .inv .4, omega (arith, l .inv .7, l .inv .1, c .before .before .before .before .before .before .before .before .before .before .before .before .pre .1 .1 .1, c .before .before .before .before .before .before .before .before .before .before .before .before .pre .1 .1 .6))))
+    (l .inv .2, (visitable-apart n (after (drop (l .r .at) (l .back) ++ g′ .back) (g′ .gone ++ g′ .removed)) (after [] []) refl refl refl refl v, (omega (arith, l .inv .6, c .before .before .before .before .before .before .before .before .before .before .loop-test .taken, c .before .before .before .before .before .before .before .before .before .before .before .before .pre .1 .1 .1), l .inv .5, l .inv .4, omega (arith, l .inv .7, l .inv .1, c .before .before .before .before .before .before .before .before .before .before .before .before .pre .1 .1 .1, c .before .before .before .before .before .before .before .before .before .before .before .before .pre .1 .1 .6))))
 
 add-i : tie.Need-add-i Inv-loop μ-loop
 add-i c = omega (arith, c .before .before .before .before .before .before .before .before .before .before .before .loop-test .taken, c .before .before .before .before .before .before .before .before .before .before .before .before .before .pre .1 .1 .1)
