@@ -1,28 +1,29 @@
 -- Demand 1: a finished sheet, or one of eleven numbers under its condition, for every sequence of bytes and every output lent.
-use mathlib.Core.Path.{_≡_, refl, ap, _∙_, subst}
-use mathlib.Core.Logic.{inl, inr}
+use mathlib.Core.Path.{_≡_, refl, ap, sym, _∙_, subst}
+use mathlib.Core.Logic.{_⊎_, inl, inr}
 use Prim.Native.Nat.{ℕ, _≤_, _<_}
 use native.Mathlib.Omega.{arith}
 use native.Mathlib.Nat.{not-suc-le-zero}
 use native.Mathlib.Decide.{decLt}
-use mathlib.Core.Bool.{Bool, true, false, not}
-use mathlib.Core.Option.{Option, none, some}
-use mathlib.Core.List.{List, [], _∷_, List·Memᴰ, List·Memᴰ·head}
-use lib.Dec.{T, eqb, nltb→le}
+use mathlib.Core.Bool.{Bool, true, false, _&&_, not}
+use mathlib.Core.List.{List, [], _∷_, List·Memᴰ, List·Memᴰ·head, List·Memᴰ·tail}
+use lib.Dec.{T, leb, leb→le, nltb→le}
 use lib.ListN.{length, length-append, length-drop}
+use Rattle.plan.specs.declared.answer.Answer.{Answer}
 use Rattle.plan.specs.declared.ir.IR.{IR}
 use Rattle.plan.specs.Kinds.{same-ir}
-use Rattle.plan.specs.Lists.{if_then_else_, sum, times, empty?}
-use Rattle.plan.specs.Sheet.{Step, no-step, step-at, in-step-table, Sheet, Outcome, refused, done, _then_, refuse_when_else_, Line, E, P, line-of, read-line, read-lines, no-lines, too-long, no-plan, parts, read}
+use Rattle.plan.specs.Lists.{if_then_else_, all?, sum, times, empty?}
+use Rattle.plan.proofs.ListLaws.{and-left, and-right, of-all}
+use Rattle.plan.specs.Sheet.{Step, no-step, step-at, in-step-table, Sheet, Outcome, refused, done, _then_, refuse_when_else_, read-lines, no-lines, too-long, no-plan, parts, read}
 use Rattle.plan.specs.Faults.{named, checked, references-right, uses-right, fields-right}
 use Rattle.plan.specs.Graph.{graph, sinks}
-use Rattle.plan.specs.Visit.{Run, simplify-ir-node-orders, goes, unlink-node, settle, settled, refusal-in, looked-in, options-of, join-fails, sink-fails}
-use Rattle.plan.specs.Walks.{walk, begin, down, up, simplify-and-fetch-orderings}
+use Rattle.plan.specs.Visit.{Run, simplify-ir-node-orders, looked-in}
+use Rattle.plan.specs.Walks.{begin, down, up, simplify-and-fetch-orderings}
 use Rattle.plan.specs.Text.{printed}
-use Rattle.plan.specs.Finished.{run, finished, Called, finish, called, too-short}
+use Rattle.plan.specs.Finished.{run, finished, Called, finish, called, too-short, answer-number}
 use Rattle.claims.specs.WellFormed.{Accepted, WellFormed}
-use Rattle.claims.specs.Demand1.{Turned-back, Demand-1}
-use Rattle.claims.proofs.Outcomes.{both-done}
+use Rattle.claims.specs.Demand1.{refusal-numbers, At-end, Enters, Is-read, Has-plan, Has-references, Has-uses, Is-taken, Comes-to, Turned-back, Finished-call, Refused-call, Demand-1}
+use Rattle.claims.proofs.Outcomes.{same-value, both-done, passed, passed-not}
 use Rattle.claims.proofs.Booleans.{all-at}
 use Rattle.claims.proofs.Taken.{well-formed}
 use Rattle.claims.proofs.Visits.{walked, places-counted}
@@ -30,155 +31,205 @@ use Rattle.claims.proofs.StepTable.{same-kind, sink-has-one-input}
 use Rattle.claims.proofs.Plans.{Plan, plan-of}
 use Rattle.claims.proofs.Sizes.{length-places}
 use Rattle.claims.proofs.WithinLimits.{within-limits}
+use Rattle.claims.proofs.Conditions.{same-number, no-refusal, refuses, goes-on, goes-on-not, Lines-came, parts-came, lines-come, Visit-came, visit-came, join-told, join-of, sink-told, sink-of, join-comes, sink-comes, walk-refused, walk-stops}
 
--- Numbers of refusals -----------------------------------------------------------------------------------------------------------------
+-- What a refusal came from --------------------------------------------------------------------------------------------------------------
 
-abbrev Within : {A : Type 0} → ℕ → ℕ → Outcome A → Type 0
-Within lo hi (refused n) = (lo ≤ n) × (n ≤ hi)
-Within lo hi (done x) = Unit {0}
-
-then-within : {A B : Type 0} (lo hi : ℕ) (o : Outcome A) (f : A → Outcome B) → Within lo hi o → ((x : A) → Within lo hi (f x)) → Within lo hi (o then f)
+refused-then : {A B : Type 0} (o : Outcome A) (f : A → Outcome B) {n : ℕ} → (o then f) ≡ refused n → (o ≡ refused n) ⊎ ((x : A) × (o ≡ done x) × (f x ≡ refused n))
 unfolding _then_
-then-within lo hi (refused n) f w g = w
-then-within lo hi (done x) f w g = g x
+refused-then (refused m) f e = inl (ap refused (same-number e))
+refused-then (done x) f e = inr (x, refl, e)
 
-when-within : {A : Type 0} (lo hi n : ℕ) (b : Bool) (o : Outcome A) → lo ≤ n → n ≤ hi → Within lo hi o → Within lo hi (refuse n when b else o)
+refused-when : {A : Type 0} (k : ℕ) (b : Bool) (o : Outcome A) {n : ℕ} → (refuse k when b else o) ≡ refused n → ((k ≡ n) × T b) ⊎ (T (not b) × (o ≡ refused n))
 unfolding refuse_when_else_
-when-within lo hi n true o h l w = (h, l)
-when-within lo hi n false o h l w = w
+refused-when k true o e = inl (same-number e, tt)
+refused-when k false o e = inr (tt, e)
 
--- 3 to 5: a line
-line-within : (l : Option Line) (sh : Sheet) → Within 3 5 (read-line l sh)
-unfolding read-line
-line-within none sh = (omega arith, omega arith)
-line-within (some (E ns)) sh =
-    when-within 3 5 3 _ _ (omega arith) (omega arith)
-    (when-within 3 5 4 _ _ (omega arith) (omega arith) (when-within 3 5 5 _ _ (omega arith) (omega arith) tt))
-line-within (some (P ns)) sh = when-within 3 5 4 _ _ (omega arith) (omega arith) (when-within 3 5 5 _ _ (omega arith) (omega arith) tt)
+refused-when-not : {A : Type 0} (k : ℕ) (b : Bool) (o : Outcome A) {n : ℕ} → (refuse k when not b else o) ≡ refused n → ((k ≡ n) × T (not b)) ⊎ (T b × (o ≡ refused n))
+unfolding refuse_when_else_
+refused-when-not k true o e = inr (tt, e)
+refused-when-not k false o e = inl (same-number e, tt)
 
-lines-within : (ls : List (List ℕ)) (sh : Sheet) → Within 3 5 (read-lines ls sh)
-unfolding read-lines
-lines-within [] sh = tt
-lines-within (l ∷ []) sh = by (empty? l)
-  where
-    by : (b : Bool) → Within 3 5 (if b then done sh else refused 3)
-    by true = tt
-    by false = (omega arith, omega arith)
-lines-within (l ∷ l′ ∷ ls) sh = then-within 3 5 (read-line (line-of l) sh) _ (line-within (line-of l) sh) (λ x. lines-within (l′ ∷ ls) x)
-
--- 10, 11: a visit
-visit-within : (n : ℕ) (r : Run) → Within 10 11 (simplify-ir-node-orders n r)
-unfolding simplify-ir-node-orders settle refusal-in
-visit-within n r = by (goes n r)
-  where
-    l : Rattle.plan.specs.Visit.Looked
-    l = looked-in n r
-
-    on : (a b : Bool) → Within 10 11 (if eqb (if a then 10 else if b then 11 else 0) 0 then done (settled n r) else refused (if a then 10 else if b then 11 else 0))
-    on true b = (omega arith, omega arith)
-    on false true = (omega arith, omega arith)
-    on false false = tt
-
-    by : (b : Bool) → Within 10 11 (if b then done (unlink-node n r) else settle n r)
-    by true = tt
-    by false = on (join-fails (options-of (l .step)) (l .observable)) (sink-fails (options-of (l .step)) (l .observable))
-
-walk-within : (ns : List ℕ) (r : Run) → Within 10 11 (walk ns r)
-unfolding walk
-walk-within [] r = tt
-walk-within (n ∷ ns) r = then-within 10 11 (simplify-ir-node-orders n r) _ (visit-within n r) (λ x. walk-within ns x)
-
-run-within : (sh : Sheet) → Within 10 11 (simplify-and-fetch-orderings sh)
-unfolding simplify-and-fetch-orderings down up
-run-within sh = then-within 10 11 (walk (graph (sh .steps) .0) (begin sh)) up (walk-within (graph (sh .steps) .0) (begin sh)) (λ r. walk-within (r .back) r)
-
--- The conditions ------------------------------------------------------------------------------------------------------------------------
-
-same-number : {A : Type 0} {m n : ℕ} → _≡_ {A = Outcome A} (refused m) (refused n) → m ≡ n
-same-number e = cc
-
-no-refusal : {A : Type 0} {x : A} {n : ℕ} {B : Type 0} → done x ≡ refused n → B
-no-refusal e = let z : _≡_ {A = ℕ} 0 1 = cc in absurd (omega arith)
+-- A number has its condition --------------------------------------------------------------------------------------------------------------
 
 module _ (s output : List ℕ) (room : T (not (too-short output))) where
-  -- reading
-  read-back : (n : ℕ) → read s ≡ refused n → Turned-back s output n × (n ≤ 6) × (1 ≤ n)
-  unfolding read refuse_when_else_ _then_
-  read-back n = by (too-long s) (λ t. t) (λ t. t)
+  abbrev Back : ℕ → Type 0
+  Back n = Turned-back s output n
+
+  is-read : (sh : Sheet) → T (not (too-long s)) → read-lines (parts 10 s) no-lines ≡ done sh → Is-read s output sh
+  is-read sh short e = by (read-lines (parts 10 s) no-lines) (parts-came 10 s no-lines) e
     where
-      lines : Outcome Sheet
-      lines = read-lines (parts 10 s) no-lines
+      by : (o : Outcome Sheet) → Lines-came no-lines (parts 10 s) o → o ≡ done sh → Is-read s output sh
+      by _ (Lines-came.no-form a f) e = no-refusal (sym e)
+      by _ (Lines-came.not-ended a f) e = no-refusal (sym e)
+      by _ (Lines-came.no-table a f) e = no-refusal (sym e)
+      by _ (Lines-came.no-room a f u) e = no-refusal (sym e)
+      by _ (Lines-came.read a) e = record { enters = record { room = room; short = short }; ends = subst (At-end no-lines (parts 10 s) []) (same-value e) a }
 
-      steps : (sh : Sheet) → lines ≡ done sh → T (not (too-long s)) → (b : Bool) → (T b → T (no-plan sh))
-          → (refuse 6 when b else done sh) ≡ refused n → Turned-back s output n × (n ≤ 6) × (1 ≤ n)
-      steps sh i short true f e =
-          let six : 6 ≡ n = same-number e in
-          (subst (Turned-back s output) six (Turned-back.no-step-line room short i (f tt)), omega arith, omega arith)
-      steps sh i short false f e = no-refusal e
+  line-back : (n : ℕ) → T (not (too-long s)) → (o : Outcome Sheet) → Lines-came no-lines (parts 10 s) o → o ≡ refused n → Back n
+  line-back n short _ (Lines-came.no-form a f) e = subst Back (same-number e) (Turned-back.no-form (record { room = room; short = short }) a f)
+  line-back n short _ (Lines-came.not-ended a f) e = subst Back (same-number e) (Turned-back.not-ended (record { room = room; short = short }) a f)
+  line-back n short _ (Lines-came.no-table a f) e = subst Back (same-number e) (Turned-back.no-table (record { room = room; short = short }) a f)
+  line-back n short _ (Lines-came.no-room a f u) e = subst Back (same-number e) (Turned-back.no-room (record { room = room; short = short }) a f u)
+  line-back n short _ (Lines-came.read a) e = no-refusal e
 
-      all : (o : Outcome Sheet) → lines ≡ o → Within 3 5 o → T (not (too-long s))
-          → (o then λ sh. refuse 6 when no-plan sh else done sh) ≡ refused n → Turned-back s output n × (n ≤ 6) × (1 ≤ n)
-      all (refused m) i w short e =
-          let same : m ≡ n = same-number e in
-          (subst (Turned-back s output) same (Turned-back.a-line room short i (w .0) (w .1)), omega arith, omega arith)
-      all (done sh) i w short e = steps sh i short (no-plan sh) (λ t. t) e
+  -- reading
+  read-back : (n : ℕ) → read s ≡ refused n → Back n
+  unfolding read
+  read-back n e =
+      elim (refused-when _ (too-long s) _ e) [
+        | inl (k, t) ↦ subst Back k (Turned-back.long-sheet room t)
+        | inr (short, e₁) ↦
+            elim (refused-then (read-lines (parts 10 s) no-lines) _ e₁) [
+              | inl e₂ ↦ line-back n short _ (parts-came 10 s no-lines) e₂
+              | inr (sh, i, e₃) ↦
+                  elim (refused-when _ (no-plan sh) _ e₃) [
+                    | inl (k, t) ↦ subst Back k (Turned-back.no-step-line (is-read sh short i) t)
+                    | inr (_, e₄) ↦ no-refusal e₄
+                  ]
+            ]
+      ]
 
-      by : (b : Bool) → (T b → T (too-long s)) → (T (not b) → T (not (too-long s)))
-          → (refuse 2 when b else lines then λ sh. refuse 6 when no-plan sh else done sh) ≡ refused n
-          → Turned-back s output n × (n ≤ 6) × (1 ≤ n)
-      by true f g e =
-          let two : 2 ≡ n = same-number e in
-          (subst (Turned-back s output) two (Turned-back.long-sheet room (f tt)), omega arith, omega arith)
-      by false f g e = all lines refl (lines-within (parts 10 s) no-lines) (g tt) e
+  has-plan : (sh : Sheet) → read s ≡ done sh → Has-plan s output sh
+  unfolding read
+  has-plan sh e =
+      let (short, e₁) = passed (too-long s) _ _ e in
+      let (sh₁, i, e₂) = both-done (read-lines (parts 10 s) no-lines) _ e₁ in
+      let (plan, e₃) = passed (no-plan sh₁) _ _ e₂ in
+      subst (Has-plan s output) (same-value e₃) (record { read = is-read sh₁ short i; plan = plan })
 
   -- references, uses, fields
-  check-back : (sh : Sheet) → read s ≡ done sh → (n : ℕ) → checked sh ≡ refused n → Turned-back s output n × (n ≤ 9) × (1 ≤ n)
-  unfolding checked refuse_when_else_
-  check-back sh i n =
-      by (references-right sh) (uses-right sh) (fields-right (sh .exprs)) (λ t. t) (λ t. t) (λ t. t) (λ t. t) (λ t. t)
-    where
-      by : (a b c : Bool) → (T a → T (references-right sh)) → (T (not a) → T (not (references-right sh)))
-          → (T b → T (uses-right sh)) → (T (not b) → T (not (uses-right sh))) → (T (not c) → T (not (fields-right (sh .exprs))))
-          → (refuse 7 when not a else refuse 8 when not b else refuse 9 when not c else done sh) ≡ refused n
-          → Turned-back s output n × (n ≤ 9) × (1 ≤ n)
-      by false b c f f′ g g′ h′ e =
-          let seven : 7 ≡ n = same-number e in
-          (subst (Turned-back s output) seven (Turned-back.references room i (f′ tt)), omega arith, omega arith)
-      by true false c f f′ g g′ h′ e =
-          let eight : 8 ≡ n = same-number e in
-          (subst (Turned-back s output) eight (Turned-back.uses room i (f tt) (g′ tt)), omega arith, omega arith)
-      by true true false f f′ g g′ h′ e =
-          let nine : 9 ≡ n = same-number e in
-          (subst (Turned-back s output) nine (Turned-back.fields room i (f tt) (g tt) (h′ tt)), omega arith, omega arith)
-      by true true true f f′ g g′ h′ e = no-refusal e
+  check-back : (sh : Sheet) → read s ≡ done sh → (n : ℕ) → checked sh ≡ refused n → Back n
+  unfolding checked
+  check-back sh i n e =
+      let stage₁ : Has-plan s output sh = has-plan sh i in
+      elim (refused-when-not _ (references-right sh) _ e) [
+        | inl (k, t) ↦ subst Back k (Turned-back.references stage₁ t)
+        | inr (t₁, e₁) ↦
+            let stage₂ : Has-references s output sh = record { plan = stage₁; references = t₁ } in
+            elim (refused-when-not _ (uses-right sh) _ e₁) [
+              | inl (k, t) ↦ subst Back k (Turned-back.uses stage₂ t)
+              | inr (t₂, e₂) ↦
+                  let stage₃ : Has-uses s output sh = record { references = stage₂; uses = t₂ } in
+                  elim (refused-when-not _ (fields-right (sh .exprs)) _ e₂) [
+                    | inl (k, t) ↦ subst Back k (Turned-back.fields stage₃ t)
+                    | inr (_, e₃) ↦ no-refusal e₃
+                  ]
+            ]
+      ]
+
+  is-taken : (sh : Sheet) → Accepted s sh → Is-taken s output sh
+  unfolding checked
+  is-taken sh a =
+      let (sh₁, i, c) = both-done (read s) checked a in
+      let (t₁, c₁) = passed-not (references-right sh₁) _ _ c in
+      let (t₂, c₂) = passed-not (uses-right sh₁) _ _ c₁ in
+      let (t₃, c₃) = passed-not (fields-right (sh₁ .exprs)) _ _ c₂ in
+      subst (Is-taken s output) (same-value c₃)
+      (record { uses = record { references = record { plan = has-plan sh₁ i; references = t₁ }; uses = t₂ }; fields = t₃ })
+
+  -- the walks
+  visit-back : (sh : Sheet) → Accepted s sh → (n k : ℕ) (r : Run) → Comes-to sh k r → (o : Outcome Run) → Visit-came k r o → o ≡ refused n → Back n
+  visit-back sh a n k r m _ (Visit-came.join t) e = subst Back (same-number e) (Turned-back.join (is-taken sh a) m (join-told (looked-in k r) t))
+  visit-back sh a n k r m _ (Visit-came.sink t) e = subst Back (same-number e) (Turned-back.sink (is-taken sh a) m (sink-told (looked-in k r) t))
+  visit-back sh a n k r m _ Visit-came.passes e = no-refusal e
+
+  walks-back : (sh : Sheet) → Accepted s sh → (n : ℕ) → simplify-and-fetch-orderings sh ≡ refused n → Back n
+  unfolding simplify-and-fetch-orderings down up
+  walks-back sh a n e =
+      elim (refused-then (down sh) up e) [
+        | inl d ↦ let (k, r, m, x) = walk-refused (graph (sh .steps) .0) (begin sh) n d in visit-back sh a n k r (inl m) _ (visit-came k r) x
+        | inr (half, d, u) ↦
+            let (k, r, m, x) = walk-refused (half .back) half n u in visit-back sh a n k r (inr (half, d, m)) _ (visit-came k r) x
+      ]
 
   -- all of it
-  run-back : (n : ℕ) → run s ≡ refused n → Turned-back s output n × (n ≤ 11) × (1 ≤ n)
-  unfolding run _then_
-  run-back n = by (read s) refl
-    where
-      walks : (sh : Sheet) → Accepted s sh → (o : Outcome Run) → simplify-and-fetch-orderings sh ≡ o → Within 10 11 o → o ≡ refused n
-          → Turned-back s output n × (n ≤ 11) × (1 ≤ n)
-      walks sh a (refused m) i w e =
-          let same : m ≡ n = same-number e in
-          (subst (Turned-back s output) same (Turned-back.a-visit room a i (w .0) (w .1)), omega arith, omega arith)
-      walks sh a (done r) i w e = no-refusal e
+  run-back : (n : ℕ) → run s ≡ refused n → Back n
+  unfolding run
+  run-back n e =
+      elim (refused-then (read s then checked) simplify-and-fetch-orderings e) [
+        | inl e₁ ↦ elim (refused-then (read s) checked e₁) [ inl e₂ ↦ read-back n e₂ | inr (sh, i, c) ↦ check-back sh i n c ]
+        | inr (sh, a, w) ↦ walks-back sh a n w
+      ]
 
-      checks : (sh : Sheet) → read s ≡ done sh → (o : Outcome Sheet) → checked sh ≡ o → (o then simplify-and-fetch-orderings) ≡ refused n
-          → Turned-back s output n × (n ≤ 11) × (1 ≤ n)
-      checks sh i (refused m) j e =
-          let same : m ≡ n = same-number e in
-          let (c, most, least) = check-back sh i m j in
-          (subst (Turned-back s output) same c, omega arith, omega arith)
-      checks sh i (done sh₁) j e =
-          walks sh₁ (rw (i) j) (simplify-and-fetch-orderings sh₁) refl (run-within sh₁) e
+-- And a condition has its number ------------------------------------------------------------------------------------------------------------
 
-      by : (o : Outcome Sheet) → read s ≡ o → (o then checked then simplify-and-fetch-orderings) ≡ refused n → Turned-back s output n × (n ≤ 11) × (1 ≤ n)
-      by (refused m) i e =
-          let same : m ≡ n = same-number e in
-          let (c, most, least) = read-back m i in
-          (subst (Turned-back s output) same c, omega arith, omega arith)
-      by (done sh) i e = checks sh i (checked sh) refl e
+module _ (s output : List ℕ) where
+  -- the outcome that the call comes to
+  outcome : Outcome Run
+  outcome = refuse 1 when too-short output else run s
+
+  entered : {n : ℕ} → Enters s output → read-lines (parts 10 s) no-lines ≡ refused n → outcome ≡ refused n
+  unfolding outcome run read _then_
+  entered k e =
+      goes-on 1 (too-short output) _ (k .room)
+      ∙ ap (λ (o : Outcome Sheet). o then checked then simplify-and-fetch-orderings) (goes-on 2 (too-long s) _ (k .short))
+      ∙ ap (λ (o : Outcome Sheet). (o then λ sh. refuse 6 when no-plan sh else done sh) then checked then simplify-and-fetch-orderings) e
+
+  too-long-back : T (not (too-short output)) → T (too-long s) → outcome ≡ refused 2
+  unfolding outcome run read _then_
+  too-long-back room t =
+      goes-on 1 (too-short output) _ room
+      ∙ ap (λ (o : Outcome Sheet). o then checked then simplify-and-fetch-orderings) (refuses 2 (too-long s) _ t)
+
+  reads : {sh : Sheet} → Is-read s output sh → read s ≡ (refuse 6 when no-plan sh else done sh)
+  unfolding read _then_
+  reads k =
+      goes-on 2 (too-long s) _ (k .enters .short)
+      ∙ ap (λ (o : Outcome Sheet). o then λ sh. refuse 6 when no-plan sh else done sh) (lines-come (Lines-came.read (k .ends)))
+
+  -- once the lines are read
+  after-reading : {sh : Sheet} → Is-read s output sh → outcome ≡ ((refuse 6 when no-plan sh else done sh) then checked then simplify-and-fetch-orderings)
+  unfolding outcome run
+  after-reading k =
+      goes-on 1 (too-short output) _ (k .enters .room) ∙ ap (λ (o : Outcome Sheet). o then checked then simplify-and-fetch-orderings) (reads k)
+
+  -- each check that is passed hands on to the next
+  checking : {sh : Sheet} → Has-plan s output sh → outcome ≡ (checked sh then simplify-and-fetch-orderings)
+  unfolding _then_
+  checking {sh} k =
+      after-reading (k .read) ∙ ap (λ (o : Outcome Sheet). o then checked then simplify-and-fetch-orderings) (goes-on 6 (no-plan sh) _ (k .plan))
+
+  references-checked : {sh : Sheet} → Has-references s output sh
+      → checked sh ≡ (refuse 8 when not (uses-right sh) else refuse 9 when not (fields-right (sh .exprs)) else done sh)
+  unfolding checked
+  references-checked {sh} k = goes-on-not 7 (references-right sh) _ (k .references)
+
+  uses-checked : {sh : Sheet} → Has-uses s output sh → checked sh ≡ (refuse 9 when not (fields-right (sh .exprs)) else done sh)
+  uses-checked {sh} k = references-checked (k .references) ∙ goes-on-not 8 (uses-right sh) _ (k .uses)
+
+  checked-to : {sh : Sheet} {n : ℕ} → Has-plan s output sh → checked sh ≡ refused n → outcome ≡ refused n
+  unfolding _then_
+  checked-to k e = checking k ∙ ap (λ (o : Outcome Sheet). o then simplify-and-fetch-orderings) e
+
+  walking : {sh : Sheet} → Is-taken s output sh → outcome ≡ simplify-and-fetch-orderings sh
+  unfolding _then_
+  walking {sh} k =
+      checking (k .uses .references .plan)
+      ∙ ap (λ (o : Outcome Sheet). o then simplify-and-fetch-orderings) (uses-checked (k .uses) ∙ goes-on-not 9 (fields-right (sh .exprs)) _ (k .fields))
+
+  visiting : {sh : Sheet} {n k : ℕ} {r : Run} → Is-taken s output sh → Comes-to sh n r → simplify-ir-node-orders n r ≡ refused k → outcome ≡ refused k
+  unfolding simplify-and-fetch-orderings down up _then_
+  visiting {sh} {n} {k} {r} t (inl m) e =
+      walking t ∙ ap (λ (o : Outcome Run). o then up) (walk-stops (graph (sh .steps) .0) (begin sh) n k r m e)
+  visiting {sh} {n} {k} {r} t (inr (half, d, m)) e =
+      walking t ∙ ap (λ (o : Outcome Run). o then up) d ∙ walk-stops (half .back) half n k r m e
+
+  comes-back : (n : ℕ) → Turned-back s output n → outcome ≡ refused n
+  unfolding outcome checked _then_
+  comes-back _ (Turned-back.short-output t) = refuses 1 (too-short output) _ t
+  comes-back _ (Turned-back.long-sheet room t) = too-long-back room t
+  comes-back _ (Turned-back.no-form k a f) = entered k (lines-come (Lines-came.no-form a f))
+  comes-back _ (Turned-back.not-ended k a f) = entered k (lines-come (Lines-came.not-ended a f))
+  comes-back _ (Turned-back.no-table k a f) = entered k (lines-come (Lines-came.no-table a f))
+  comes-back _ (Turned-back.no-room k a f u) = entered k (lines-come (Lines-came.no-room a f u))
+  comes-back _ (Turned-back.no-step-line {sh} k t) =
+      after-reading k ∙ ap (λ (o : Outcome Sheet). o then checked then simplify-and-fetch-orderings) (refuses 6 (no-plan sh) _ t)
+  comes-back _ (Turned-back.references {sh} k t) = checked-to k (refuses 7 (not (references-right sh)) _ t)
+  comes-back _ (Turned-back.uses {sh} k t) = checked-to (k .plan) (references-checked k ∙ refuses 8 (not (uses-right sh)) _ t)
+  comes-back _ (Turned-back.fields {sh} k t) = checked-to (k .references .plan) (uses-checked k ∙ refuses 9 (not (fields-right (sh .exprs))) _ t)
+  comes-back _ (Turned-back.join {n} {r} k m t) = visiting k m (join-comes n r (join-of (looked-in n r) t))
+  comes-back _ (Turned-back.sink {n} {r} k m t) = visiting k m (sink-comes n r (sink-of (looked-in n r) t))
 
 -- Every finished sheet has a G line: the first step is no Sink, since a Sink has an earlier input; so it is named ---------------------------
 
@@ -243,41 +294,75 @@ run-printed s r e = ap (λ (o : Outcome Run). o then λ x. done (printed x)) e
 
 -- Demand 1 --------------------------------------------------------------------------------------------------------------------------------
 
-module _ (s output : List ℕ) where
-  -- the outcome that the call comes to
-  outcome : Outcome Run
-  outcome = refuse 1 when too-short output else run s
+-- the list, as far as sums and tests want it
+pub number-range : (n : ℕ) → List·Memᴰ n refusal-numbers → (1 ≤ n) × (n ≤ 11)
+unfolding all?
+number-range n m =
+    let t = of-all (λ k. leb 1 k && leb k 11) refusal-numbers tt n m in
+    (leb→le 1 n (and-left (leb 1 n) (leb n 11) t), leb→le n 11 (and-right (leb 1 n) (leb n 11) t))
 
-  comes-to : (o : Outcome Run) → outcome ≡ o → finish s output ≡ called output o
+-- every number of a condition is on the list
+listed : (s output : List ℕ) (n : ℕ) → Turned-back s output n → List·Memᴰ n refusal-numbers
+listed s output _ (Turned-back.short-output t) = List·Memᴰ·head refl
+listed s output _ (Turned-back.long-sheet r t) = List·Memᴰ·tail (List·Memᴰ·head refl)
+listed s output _ (Turned-back.no-form k a f) = List·Memᴰ·tail (List·Memᴰ·tail (List·Memᴰ·head refl))
+listed s output _ (Turned-back.not-ended k a f) = List·Memᴰ·tail (List·Memᴰ·tail (List·Memᴰ·head refl))
+listed s output _ (Turned-back.no-table k a f) = List·Memᴰ·tail (List·Memᴰ·tail (List·Memᴰ·tail (List·Memᴰ·head refl)))
+listed s output _ (Turned-back.no-room k a f u) = List·Memᴰ·tail (List·Memᴰ·tail (List·Memᴰ·tail (List·Memᴰ·tail (List·Memᴰ·head refl))))
+listed s output _ (Turned-back.no-step-line k t) = List·Memᴰ·tail (List·Memᴰ·tail (List·Memᴰ·tail (List·Memᴰ·tail (List·Memᴰ·tail (List·Memᴰ·head refl)))))
+listed s output _ (Turned-back.references k t) = List·Memᴰ·tail (List·Memᴰ·tail (List·Memᴰ·tail (List·Memᴰ·tail (List·Memᴰ·tail (List·Memᴰ·tail (List·Memᴰ·head refl))))))
+listed s output _ (Turned-back.uses k t) = List·Memᴰ·tail (List·Memᴰ·tail (List·Memᴰ·tail (List·Memᴰ·tail (List·Memᴰ·tail (List·Memᴰ·tail (List·Memᴰ·tail (List·Memᴰ·head refl)))))))
+listed s output _ (Turned-back.fields k t) = List·Memᴰ·tail (List·Memᴰ·tail (List·Memᴰ·tail (List·Memᴰ·tail (List·Memᴰ·tail (List·Memᴰ·tail (List·Memᴰ·tail (List·Memᴰ·tail (List·Memᴰ·head refl))))))))
+listed s output _ (Turned-back.join k m t) = List·Memᴰ·tail (List·Memᴰ·tail (List·Memᴰ·tail (List·Memᴰ·tail (List·Memᴰ·tail (List·Memᴰ·tail (List·Memᴰ·tail (List·Memᴰ·tail (List·Memᴰ·tail (List·Memᴰ·head refl)))))))))
+listed s output _ (Turned-back.sink k m t) = List·Memᴰ·tail (List·Memᴰ·tail (List·Memᴰ·tail (List·Memᴰ·tail (List·Memᴰ·tail (List·Memᴰ·tail (List·Memᴰ·tail (List·Memᴰ·tail (List·Memᴰ·tail (List·Memᴰ·tail (List·Memᴰ·head refl))))))))))
+
+module _ (s output : List ℕ) where
+  comes-to : (o : Outcome Run) → outcome s output ≡ o → finish s output ≡ called output o
   unfolding outcome finish
   comes-to o e = ap (called output) e
 
-  turned-back : (n : ℕ) → outcome ≡ refused n → Turned-back s output n → 1 ≤ n → n ≤ 11 → Demand-1 s output
+  -- the answer to a sheet whose condition holds
+  alone : (n : ℕ) → Turned-back s output n → finish s output .answer ≡ Answer.Refused n
   unfolding called
-  turned-back n e c least most =
-      let same = comes-to (refused n) e in
-      record {
-        either = inr (record { number = n; least = least; most = most; condition = c; answer = ap (λ (x : Called). x .answer) same; bytes = ap (λ (x : Called). x .output) same });
-        size = ap (λ (x : Called). length (x .output)) same;
-      }
+  alone n c = ap (λ (x : Called). x .answer) (comes-to (refused n) (comes-back s output n c))
 
-  finishes : (r : Run) → outcome ≡ done r → T (not (too-short output)) → run s ≡ done r → Demand-1 s output
+  exclude : (m n : ℕ) → Turned-back s output m → Turned-back s output n → m ≡ n
+  exclude m n c d = ap answer-number (sym (alone m c) ∙ alone n d)
+
+  is-refusal : Answer → ℕ
+  is-refusal (Answer.Finished f) = 0
+  is-refusal (Answer.Refused n) = 1
+
+  finished-none : Finished-call s output → (n : ℕ) → ¬ Turned-back s output n
+  unfolding is-refusal
+  finished-none k n c = let z : _≡_ {A = ℕ} 0 1 = ap is-refusal (sym (k .answer) ∙ alone n c) in omega arith
+
+  demanded : Finished-call s output ⊎ Refused-call s output → length (finish s output .output) ≡ length output → Demand-1 s output
+  demanded k size = record { either = k; alone = alone; exclude = exclude; finished-none = finished-none; size = size }
+
+  turned-back : (n : ℕ) → outcome s output ≡ refused n → Turned-back s output n → Demand-1 s output
+  unfolding called
+  turned-back n e c =
+      let same = comes-to (refused n) e in
+      demanded
+      (inr (record { number = n; listed = listed s output n c; condition = c; answer = ap (λ (x : Called). x .answer) same; bytes = ap (λ (x : Called). x .output) same }))
+      (ap (λ (x : Called). length (x .output)) same)
+
+  finishes : (r : Run) → outcome s output ≡ done r → T (not (too-short output)) → run s ≡ done r → Demand-1 s output
   unfolding called
   finishes r e room i =
       let same = comes-to (done r) e in
       let (sh, accepted, walks) = both-done (read s then checked) simplify-and-fetch-orderings (from-run i) in
       let short = within-limits s sh accepted .text (printed r) (finished-is i) in
-      record {
-        either =
-            inl (record {
-              whole = r;
-              runs = i;
-              answer = ap (λ (x : Called). x .answer) same;
-              bytes = ap (λ (x : Called). x .output) same;
-              has-edge = some-edge s r i;
-            });
-        size = ap (λ (x : Called). length (x .output)) same ∙ simp (length-append, length-drop) (omega (arith, nltb→le (length output) 16384 room));
-      }
+      demanded
+      (inl (record {
+        whole = r;
+        runs = i;
+        answer = ap (λ (x : Called). x .answer) same;
+        bytes = ap (λ (x : Called). x .output) same;
+        has-edge = some-edge s r i;
+      }))
+      (ap (λ (x : Called). length (x .output)) same ∙ simp (length-append, length-drop) (omega (arith, nltb→le (length output) 16384 room)))
     where
       from-run : run s ≡ done r → (read s then checked then simplify-and-fetch-orderings) ≡ done r
       from-run i = opened s i
@@ -289,10 +374,10 @@ module _ (s output : List ℕ) where
   unfolding outcome refuse_when_else_
   demand-1 = by (too-short output) refl (λ t. t) (λ t. t)
     where
-      on : (o : Outcome Run) → run s ≡ o → outcome ≡ o → T (not (too-short output)) → Demand-1 s output
-      on (refused n) i e room = let (c, most, least) = run-back s output room n i in turned-back n e c least most
+      on : (o : Outcome Run) → run s ≡ o → outcome s output ≡ o → T (not (too-short output)) → Demand-1 s output
+      on (refused n) i e room = turned-back n e (run-back s output room n i)
       on (done r) i e room = finishes r e room i
 
       by : (b : Bool) → too-short output ≡ b → (T b → T (too-short output)) → (T (not b) → T (not (too-short output))) → Demand-1 s output
-      by true e f g = turned-back 1 (ap (λ (x : Bool). refuse 1 when x else run s) e) (Turned-back.short-output (f tt)) (omega arith) (omega arith)
+      by true e f g = turned-back 1 (ap (λ (x : Bool). refuse 1 when x else run s) e) (Turned-back.short-output (f tt))
       by false e f g = on (run s) refl (ap (λ (x : Bool). refuse 1 when x else run s) e) (g tt)

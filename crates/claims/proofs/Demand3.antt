@@ -9,7 +9,7 @@ use Rattle.plan.specs.Text.{printed, edges-block, tally-line}
 use Rattle.plan.specs.Finished.{run, finished}
 use Rattle.claims.specs.Demand3.{Finished-run, Demand-3}
 use Rattle.claims.proofs.Outcomes.{both-done, same-value}
-use Rattle.claims.proofs.Visits.{visits-counted}
+use Rattle.claims.proofs.Visits.{visits-counted, visits-taken}
 use Rattle.claims.proofs.Removals.{removal}
 use Rattle.claims.proofs.LooksBounded.{looks-down, looks-up}
 
@@ -27,6 +27,7 @@ finished-run s out e =
       down-ends = e₁;
       up-ends = e₂;
       prints = sym (same-value prints);
+      took = visits-taken sh half whole e₁ e₂;
       visits = visits-counted sh half whole e₁ e₂;
       sorts = removal s sh half whole accepted e₁ e₂;
     }

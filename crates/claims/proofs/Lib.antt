@@ -45,6 +45,7 @@ pub mod Printable
 pub mod PrintableStart
 pub mod WithinLimits
 pub mod Demand3
+pub mod Conditions
 pub mod Demand1
 pub mod Visitables
 pub mod EnoughFuel

@@ -17,7 +17,7 @@ use Rattle.plan.specs.Visit.{Run, simplify-ir-node-orders, goes, unlink-node, s
 use Rattle.plan.specs.Walks.{walk, trace, then-all, begin, down, up}
 use Rattle.plan.proofs.ListLaws.{and-right}
 use Rattle.claims.specs.WellFormed.{Accepted}
-use Rattle.claims.specs.Demand3.{leaving, Unordered-at, Removed-at, Is-sort, No-slice, Down, Up, Removed, Edge-of, Sorts-removed}
+use Rattle.claims.specs.Demand3.{leaving, Unordered-at, Removed-at, Is-sort, No-slice, Down, Up, Removed-down, Removed, Edge-of, Sorts-removed}
 use Rattle.claims.proofs.Outcomes.{same-value, both-done}
 use Rattle.claims.proofs.Taken.{well-formed}
 use Rattle.claims.proofs.Walks.{two-ways, walk-keeps, trace-keeps, walk-at}
@@ -134,11 +134,34 @@ module _ (sh : Sheet) (plan : Plan (sh .steps)) (half : Run) (e₁ : down sh ≡
   unfolding up
   same-removed whole e₂ = walk-keeps (Rising (sh .steps) (half .removed)) (rising-visit (sh .steps) (half .removed)) (half .back) half rising e₂ .removed
 
-  removed-down : (n : ℕ) → List·Memᴰ n (half .removed) ↔ Removed sh half n
+  -- on the way down
+  down-exactly : (n : ℕ) → List·Memᴰ n (half .removed) ↔ Removed-down sh n
   unfolding down begin
+  down-exactly n = (
+    λ m. elim (was-removed n places (begin sh) e₁ m) [ inl z ↦ absurd (List·Memᴰ·not-nil z) | inr y ↦ y ],
+    λ (r, m, x). let (ms, g, w) = at-visit n r m in stays-removed n ms r w x,
+  )
+
+  down-sorts : (n : ℕ) → List·Memᴰ n (half .removed) → Is-sort sh n
+  down-sorts n y =
+      let (r, m, x) = down-exactly n .0 y in
+      let (ms, g, w) = at-visit n r m in
+      sort-kind (step-at (sh .steps) n) (subst T (g .sorts n) (goes-sort n r (removal-goes n r x) .0))
+
+  down-once : (n : ℕ) → times n (half .removed) ≤ 1
+  unfolding down begin sum
+  down-once n = by (decLe 1 (times n (half .removed)))
+    where
+      by : Dec (1 ≤ times n (half .removed)) → times n (half .removed) ≤ 1
+      by (yes h) =
+          omega (arith, back-or-removed n places (begin sh) e₁, linked-begin sh plan .once n (down-sorts n (stands-in n (half .removed) h)))
+      by (no h) = omega arith
+
+  -- in both walks
+  removed-down : (n : ℕ) → List·Memᴰ n (half .removed) ↔ Removed sh half n
   removed-down n = (
-    λ m. elim (was-removed n places (begin sh) e₁ m) [ inl z ↦ absurd (List·Memᴰ·not-nil z) | inr (v, i, x) ↦ (v, inl i, x) ],
-    λ (r, v, x). elim v [ inl m ↦ (let (ms, g, w) = at-visit n r m in stays-removed n ms r w x) | inr m ↦ absurd (none-up n r m x) ],
+    λ m. let (r, i, x) = down-exactly n .0 m in (r, inl i, x),
+    λ (r, v, x). elim v [ inl m ↦ down-exactly n .1 (r, m, x) | inr m ↦ absurd (none-up n r m x) ],
   )
 
   -- a sort that goes has no slice, and its edge stays unordered
@@ -201,5 +224,9 @@ removal s sh half whole a e₁ e₂ =
       no-cache = λ n l _. removed-exactly sh plan half e₁ n l;
       none-up = λ n _. none-up sh plan half e₁ n;
       under-cache = λ n l k. absurd (none-after sh plan n l k);
+      removed-down = down-exactly sh plan half e₁;
+      down-once = down-once sh plan half e₁;
+      down-sorts = down-sorts sh plan half e₁;
+      counted-once = λ n. rw (same-removed sh plan half e₁ whole e₂) (down-once sh plan half e₁ n);
       counted = λ n. rw (same-removed sh plan half e₁ whole e₂) (removed-down sh plan half e₁ n);
     }

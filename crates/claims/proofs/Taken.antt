@@ -24,7 +24,7 @@ record Read (sh : Sheet) : Type 0 where
 add-expr : (ns : List ℕ) (sh : Sheet) {sh′ : Sheet} → Read sh → T (expr-fits ns) → within-limits (with-expr (expr-of ns) sh) ≡ done sh′ → Read sh′
 unfolding expr-fits with-expr
 add-expr ns sh k t e =
-    let (w, i) = passed (over-limits (with-expr (expr-of ns) sh)) 5 _ e in
+    let (w, i) = passed (over-limits (with-expr (expr-of ns) sh)) _ _ e in
     let fits = and-right (ltb (getD ns 0 0) 25 && leb (getD ns 1 0) 1 && leb (getD ns 2 0) 1) (in-expr-table (expr-of ns)) t in
     subst Read (same-value i)
     (record { exprs = all-append in-expr-table (sh .exprs) (expr-of ns) (k .exprs) fits; steps = k .steps; within = w })
@@ -32,7 +32,7 @@ add-expr ns sh k t e =
 add-step : (ns : List ℕ) (sh : Sheet) {sh′ : Sheet} → Read sh → T (step-fits ns) → within-limits (with-step (step-of ns) sh) ≡ done sh′ → Read sh′
 unfolding step-fits with-step
 add-step ns sh k t e =
-    let (w, i) = passed (over-limits (with-step (step-of ns) sh)) 5 _ e in
+    let (w, i) = passed (over-limits (with-step (step-of ns) sh)) _ _ e in
     let fits = and-right (ltb (getD ns 0 0) 19 && eqb (length ns) _) (in-step-table (step-of ns)) t in
     subst Read (same-value i)
     (record { exprs = k .exprs; steps = all-append in-step-table (sh .steps) (step-of ns) (k .steps) fits; within = w })
@@ -41,15 +41,15 @@ one-line : (l : Option Line) (sh : Sheet) {sh′ : Sheet} → Read sh → read-l
 unfolding read-line
 one-line none sh k e = let z : _≡_ {A = ℕ} 0 1 = cc in absurd (omega arith)
 one-line (some (E ns)) sh k e =
-    let (_, e₁) = passed-not (empty? (sh .steps)) 3 _ e in
-    let (t, e₂) = passed-not (expr-fits ns) 4 _ e₁ in
+    let (_, e₁) = passed-not (empty? (sh .steps)) _ _ e in
+    let (t, e₂) = passed-not (expr-fits ns) _ _ e₁ in
     add-expr ns sh k t e₂
-one-line (some (P ns)) sh k e = let (t, e₁) = passed-not (step-fits ns) 4 _ e in add-step ns sh k t e₁
+one-line (some (P ns)) sh k e = let (t, e₁) = passed-not (step-fits ns) _ _ e in add-step ns sh k t e₁
 
 all-lines : (ls : List (List ℕ)) (sh : Sheet) {sh′ : Sheet} → Read sh → read-lines ls sh ≡ done sh′ → Read sh′
 unfolding read-lines
 all-lines [] sh k e = subst Read (same-value e) k
-all-lines (l ∷ []) sh k e = subst Read (came (empty? l) sh 3 e) k
+all-lines (l ∷ []) sh k e = subst Read (came (empty? l) sh _ e) k
 all-lines (l ∷ l′ ∷ ls) sh k e =
     let (sh₁, first, rest) = both-done (read-line (line-of l) sh) (λ x. read-lines (l′ ∷ ls) x) e in
     all-lines (l′ ∷ ls) sh₁ (one-line (line-of l) sh k first) rest
@@ -62,14 +62,14 @@ pub well-formed : (s : List ℕ) (sh : Sheet) → Accepted s sh → WellFormed s
 unfolding read checked
 well-formed s sh e =
     let (sh₁, r, c) = both-done (read s) checked e in
-    let (_, r₁) = passed (too-long s) 2 _ r in
+    let (_, r₁) = passed (too-long s) _ _ r in
     let (sh₂, lines, r₂) = both-done (read-lines (parts 10 s) no-lines) _ r₁ in
-    let (plan, r₃) = passed (no-plan sh₂) 6 _ r₂ in
+    let (plan, r₃) = passed (no-plan sh₂) _ _ r₂ in
     let same : sh₂ ≡ sh₁ = same-value r₃ in
     let k = subst Read same (all-lines (parts 10 s) no-lines nothing-read lines) in
-    let (refs, c₁) = passed-not (references-right sh₁) 7 _ c in
-    let (uses, c₂) = passed-not (uses-right sh₁) 8 _ c₁ in
-    let (fields, c₃) = passed-not (fields-right (sh₁ .exprs)) 9 _ c₂ in
+    let (refs, c₁) = passed-not (references-right sh₁) _ _ c in
+    let (uses, c₂) = passed-not (uses-right sh₁) _ _ c₁ in
+    let (fields, c₃) = passed-not (fields-right (sh₁ .exprs)) _ _ c₂ in
     subst WellFormed (same-value c₃)
     (record {
       exprs-in-table = k .exprs;

@@ -2,7 +2,7 @@
 use mathlib.Core.Path.{_≡_, refl, ap}
 use Prim.Native.Nat.{ℕ, _+_, _≤_}
 use native.Mathlib.Omega.{arith}
-use native.Mathlib.Nat.{le-trans}
+use native.Mathlib.Nat.{le-refl, le-trans}
 use mathlib.Core.Bool.{Bool, false}
 use mathlib.Core.List.{List, List·Memᴰ, Memᴰ·append-left, Memᴰ·append-right}
 use lib.ListN.{length}
@@ -11,7 +11,8 @@ use Rattle.plan.specs.Sheet.{Expr, Step, no-step, step-at}
 use Rattle.plan.specs.Look.{Eos, simplify-projected-exprs}
 use Rattle.plan.specs.Visit.{Run, Looked, looked-in, looks-of, around, options-of, allow-deordering-top}
 use Rattle.plan.proofs.ListLaws.{sum-append}
-use Rattle.claims.specs.Demand3.{List-bounded, Looks-bounded}
+use Rattle.claims.specs.Demand3.{records, List-bounded, Looks-bounded}
+use Rattle.claims.proofs.Counts.{times-of}
 use Rattle.claims.proofs.Sums.{sum-part, sum-at, sum-below, below-one, below-if-counted, mark}
 use Rattle.claims.proofs.Loads.{load, load-own, load-records, among-records}
 use Rattle.claims.proofs.Changes.{Formed, earlier-of, Changes, changes-on, changed-formed, changed-length, changed-loads}
@@ -128,10 +129,28 @@ module _ (r : Run) (sound : Sound r) (n : ℕ) where
         ap (sum-below w) (changed-length c),
       )
 
+  -- no record is in the trees of both lists, be it those of the n3 list as its own looks begin
+  apart : (es : List Expr) → ((w : ℕ → ℕ) → sum (load w es) (l .step .aggs) ≤ sum (load w (l .start .expr-arena)) (l .step .aggs))
+      → (p : ℕ) → List·Memᴰ p (records (l .start .expr-arena) (l .step .exprs)) → ¬ List·Memᴰ p (records es (l .step .aggs))
+  apart es less p m k =
+      omega (
+        arith,
+        times-of p (records (l .start .expr-arena) (l .step .exprs)) m,
+        load-records (mark p) (l .start .expr-arena) (l .step .exprs),
+        times-of p (records es (l .step .aggs)) k,
+        load-records (mark p) es (l .step .aggs),
+        less (mark p),
+        once-start (mark p),
+        sum-append (load (mark p) (l .start .expr-arena)) (l .step .exprs) (l .step .aggs),
+        below-one p (length (l .start .expr-arena)),
+      )
+
   pub looks-bounded-in : Looks-bounded n r
   unfolding looked-in looks-of allow-deordering-top
   looks-bounded-in =
       record {
         exprs = list-bounded (s .exprs) (allow-deordering-top (options-of s) (around n (r .edges))) (l .start) (imploded-start .formed) once-exprs;
         aggs = list-bounded (l .step .aggs) false (l .between) formed-between once-aggs;
+        apart = apart (l .start .expr-arena) (λ w. le-refl _);
+        apart-later = apart (l .between .expr-arena) (λ w. changed-loads (exprs-spent .goes .changes) (imploded-start .formed) w (l .step .aggs));
       }

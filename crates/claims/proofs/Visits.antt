@@ -1,15 +1,15 @@
 -- Demand 3, visits: 2 × (s + e) − r.
-use mathlib.Core.Path.{_≡_, refl, ap, sym, subst}
+use mathlib.Core.Path.{_≡_, refl, ap, sym, _∙_, subst}
 use mathlib.Core.Logic.{inl, inr}
 use Prim.Native.Nat.{ℕ, zero, suc, _+_, _*_}
 use native.Mathlib.Omega.{arith}
 use mathlib.Core.List.{List, [], _∷_, _++_}
 use lib.ListN.{length, length-append, length-map, length-reverse}
 use Rattle.plan.specs.Lists.{numbered}
-use Rattle.plan.specs.Sheet.{Step, Sheet, done}
+use Rattle.plan.specs.Sheet.{Step, Sheet, Outcome, done}
 use Rattle.plan.specs.Graph.{Edge, graph, grow, popped, following, edges-into, sinks, most-places}
 use Rattle.plan.specs.Visit.{Run, simplify-ir-node-orders, unlink-node, settled}
-use Rattle.plan.specs.Walks.{walk, begin, down, up}
+use Rattle.plan.specs.Walks.{walk, trace, then-all, begin, down, up}
 use Rattle.claims.proofs.Outcomes.{both-done}
 use Rattle.claims.proofs.Walks.{two-ways}
 use Rattle.claims.proofs.VisitsKept.{visit-visits}
@@ -46,6 +46,14 @@ walked (n ∷ ns) r {r′} e =
     let u = walked ns r₁ rest in
     record { visits = omega arith; back = omega arith; edges = omega arith }
 
+-- a walk that comes to its end makes a visit at each of its places
+pub traced : (ns : List ℕ) (r : Run) {r′ : Run} → walk ns r ≡ done r′ → length (trace ns r) ≡ length ns
+unfolding walk trace
+traced [] r e = refl
+traced (n ∷ ns) r e =
+    let (r₁, first, rest) = both-done (simplify-ir-node-orders n r) (λ x. walk ns x) e in
+    ap suc (ap (λ (o : Outcome Run). length (then-all o (λ x. trace ns x))) first ∙ traced ns r₁ rest)
+
 pub length-numbered : {A : Type 0} (k : ℕ) (l : List A) → length (numbered k l) ≡ length l
 unfolding numbered
 length-numbered k [] = refl
@@ -76,3 +84,11 @@ visits-counted sh half whole e₁ e₂ =
     let t = walked (graph (sh .steps) .0) (begin sh) e₁ in
     let u = walked (half .back) half e₂ in
     omega (arith, places-counted (sh .steps))
+
+pub visits-taken : (sh : Sheet) (half whole : Run) → down sh ≡ done half → up half ≡ done whole
+    → whole .tally .visits ≡ length (trace (graph (sh .steps) .0) (begin sh)) + length (trace (half .back) half)
+unfolding down up begin
+visits-taken sh half whole e₁ e₂ =
+    let t = walked (graph (sh .steps) .0) (begin sh) e₁ in
+    let u = walked (half .back) half e₂ in
+    omega (arith, traced (graph (sh .steps) .0) (begin sh) e₁, traced (half .back) half e₂)

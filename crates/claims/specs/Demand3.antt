@@ -66,6 +66,10 @@ module _ (sh : Sheet) where
       (c : ℕ) × (step-at (sh .steps) c .kind ≡ IR.Cache) × (step-at (sh .steps) c .inputs ≡ n ∷ [])
       × Stands-after c n (graph (sh .steps) .0)
 
+  -- a downward visit removes n
+  abbrev pub Removed-down : ℕ → Type 0
+  Removed-down n = (r : Run) × Down sh n r × Removed-at n r
+
   module _ (half : Run) where
     abbrev pub Removed : ℕ → Type 0
     Removed n = (r : Run) × Visited sh half n r × Removed-at n r
@@ -88,8 +92,13 @@ pub record Sorts-removed (sh : Sheet) (half whole : Run) : Type 0 where
   -- unordered and it has no slice
   pub under-cache : (n : ℕ) → Is-sort sh n → Cache-after sh n
       → Removed sh half n ↔ ((r : Run) × Visited sh half n r × Unordered-at (leaving n r) r × No-slice sh n)
-  -- the sorts that T counts are those that a visit removed
+  -- the r of the count of visits: `half .removed` are the sorts that a downward visit removes, each once
+  pub removed-down : (n : ℕ) → List·Memᴰ n (half .removed) ↔ Removed-down sh n
+  pub down-once : (n : ℕ) → times n (half .removed) ≤ 1
+  pub down-sorts : (n : ℕ) → List·Memᴰ n (half .removed) → Is-sort sh n
+  -- the sorts that T counts are those that a visit removed, each once
   pub counted : (n : ℕ) → List·Memᴰ n (whole .removed) ↔ Removed sh half n
+  pub counted-once : (n : ℕ) → times n (whole .removed) ≤ 1
 
 -- The second half has no instance: the list as built never has such a Cache
 abbrev pub No-cache-after : Type 0
@@ -119,6 +128,13 @@ pub record Looks-bounded (n : ℕ) (r : Run) : Type 0 where
       let l = looked-in n r in
       List-bounded (l .step .exprs) (allow-deordering-top (options-of (l .step)) (around n (r .edges))) (l .start) (l .between)
   pub aggs : let l = looked-in n r in List-bounded (l .step .aggs) false (l .between) (l .end)
+  -- no record stands in the trees of both, when the looks begin nor when those of the n3 list do: a look belongs to one list only
+  pub apart :
+      let l = looked-in n r in
+      (p : ℕ) → List·Memᴰ p (records (l .start .expr-arena) (l .step .exprs)) → ¬ List·Memᴰ p (records (l .start .expr-arena) (l .step .aggs))
+  pub apart-later :
+      let l = looked-in n r in
+      (p : ℕ) → List·Memᴰ p (records (l .start .expr-arena) (l .step .exprs)) → ¬ List·Memᴰ p (records (l .between .expr-arena) (l .step .aggs))
 
 -- Demand 3 ---------------------------------------------------------------------------------------------------------------------
 
@@ -135,6 +151,8 @@ pub record Finished-run (s out : List ℕ) : Type 0 where
       out
       ≡ exprs-block whole ++ steps-block whole ++ concat-map edge-line (whole .edges)
       ++ line 84 (length (whole .removed) ∷ whole .tally .visits ∷ whole .tally .looks ∷ [])
+  -- the visits printed are those that were made: the entries of both traces
+  pub took : whole .tally .visits ≡ length (trace (graph (sheet .steps) .0) (begin sheet)) + length (trace (half .back) half)
   -- with s sinks, e edges and r sorts removed by the downward walk, 2 × (s + e) − r visits
   pub visits : whole .tally .visits + length (half .removed) ≡ 2 * (length (sinks (sheet .steps)) + length (whole .edges))
   pub sorts : Sorts-removed sheet half whole

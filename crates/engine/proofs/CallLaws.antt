@@ -143,6 +143,7 @@ module _ (s entry : List ℕ) (r : Run) (runs : run s ≡ done r) where
               down-ends = k .down-ends;
               up-ends = k .up-ends;
               prints = front ∙ k .prints;
+              took = k .took;
               visits = k .visits;
               sorts = k .sorts;
             };

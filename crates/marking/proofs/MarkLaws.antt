@@ -4,7 +4,7 @@ use mathlib.Core.Logic.{_⊎_, inl, inr}
 use Prim.Native.Nat.{ℕ, _-_, _≤_}
 use native.Mathlib.Omega.{arith}
 use mathlib.Core.Bool.{Bool, true, false}
-use mathlib.Core.List.{List, [], _∷_, _++_}
+use mathlib.Core.List.{List, [], _∷_, _++_, List·Memᴰ}
 use lib.Dec.{T, eqb, eqb-refl}
 use lib.ListN.{length, take, drop, length-append}
 use lib.Seq.{take-append-le, drop-append-le, take-at, drop-at}
@@ -17,9 +17,9 @@ use Rattle.plan.specs.Sheet.{Outcome, refused, done, refuse_when_else_}
 use Rattle.plan.specs.Text.{line, edge-line, exprs-block, steps-block, edges-block, tally-line, printed}
 use Rattle.plan.specs.Visit.{Run}
 use Rattle.plan.proofs.ListLaws.{same→eq}
-use Rattle.claims.specs.Demand1.{Finished-call, Refused-call}
+use Rattle.claims.specs.Demand1.{refusal-numbers, Finished-call, Refused-call}
 use Rattle.claims.proofs.Booleans.{and-both, T-eq}
-use Rattle.claims.proofs.Demand1.{demand-1}
+use Rattle.claims.proofs.Demand1.{demand-1, number-range}
 use Rattle.claims.proofs.Outcomes.{same-value}
 use Rattle.engine.specs.Call.{call}
 use Rattle.marking.specs.declared.answer.Mark.{Mark}
@@ -151,10 +151,10 @@ told-apart (Mark.Refused m) Mark.Right x y e = absurd (omega arith)
 told-apart (Mark.Refused m) Mark.Wrong x y e = absurd (omega arith)
 told-apart (Mark.Refused m) (Mark.Refused n) x y e = ap Mark.Refused e
 
-few-tellable : (a : Mark) → ((n : ℕ) → a ≡ Mark.Refused n → (1 ≤ n) × (n ≤ 11)) → Tellable a
+few-tellable : (a : Mark) → ((n : ℕ) → a ≡ Mark.Refused n → List·Memᴰ n refusal-numbers) → Tellable a
 few-tellable Mark.Right h = tt
 few-tellable Mark.Wrong h = tt
-few-tellable (Mark.Refused n) h = let k = h n refl in (k .0, omega (arith, k .1))
+few-tellable (Mark.Refused n) h = let k = number-range n (h n refl) in (k .0, omega (arith, k .1))
 
 module _ (s output : List ℕ) where
   has-g-line : (w : Run) → marked-run s output ≡ done w → [] ≡ edges-block w → ⊥
@@ -179,11 +179,11 @@ module _ (s output : List ℕ) where
   verdict-none true = refl
   verdict-none false = refl
 
-  eleven : (paper : List ℕ) (n : ℕ) → marked s paper output .answer ≡ Mark.Refused n → (1 ≤ n) × (n ≤ 11)
+  listed : (paper : List ℕ) (n : ℕ) → marked s paper output .answer ≡ Mark.Refused n → List·Memᴰ n refusal-numbers
   unfolding finish called marked mark-of told number-of
-  eleven paper n e = by (marked-run s output) refl (demand-1 s output .either)
+  listed paper n e = by (marked-run s output) refl (demand-1 s output .either)
     where
-      by : (o : Outcome Run) → marked-run s output ≡ o → Finished-call s output ⊎ Refused-call s output → (1 ≤ n) × (n ≤ 11)
+      by : (o : Outcome Run) → marked-run s output ≡ o → Finished-call s output ⊎ Refused-call s output → List·Memᴰ n refusal-numbers
       by (done w) p d =
           let z : number-of (verdict (same paper (edges-block w))) .0 ≡ 1 = ap (λ (o : Outcome Run). number-of (mark-of paper o) .0) (sym p) ∙ ap (λ (x : Mark). number-of x .0) e in
           let y = verdict-none (same paper (edges-block w)) in
@@ -194,7 +194,7 @@ module _ (s output : List ℕ) where
       by (refused m) p (inr k) =
           let z : m ≡ k .number = ap (λ (o : Outcome Run). told (called output o .answer) .1) (sym p) ∙ ap (λ (x : Answer). told x .1) (k .answer) in
           let y : m ≡ n = ap (λ (o : Outcome Run). number-of (mark-of paper o) .1) (sym p) ∙ ap (λ (x : Mark). number-of x .1) e in
-          (omega (arith, z, y, k .least), omega (arith, z, y, k .most))
+          subst (λ j. List·Memᴰ j refusal-numbers) (sym z ∙ y) (k .listed)
 
   answer-is : (paper : List ℕ) (w : Run) → marked-run s output ≡ done w → marked s paper output .answer ≡ verdict (same paper (edges-block w))
   unfolding marked mark-of
@@ -206,9 +206,9 @@ module _ (s output : List ℕ) where
         right = λ w e p. answer-is paper w e ∙ sym (right-if-equal paper (edges-block w) p);
         wrong = λ w e p. answer-is paper w e ∙ sym (wrong-if-not paper (edges-block w) p);
         empty-wrong = λ w e. answer-is [] w e ∙ sym (wrong-if-not [] (edges-block w) (has-g-line w e));
-        numbers = eleven paper;
-        tellable = few-tellable (marked s paper output .answer) (eleven paper);
+        numbers = listed paper;
+        tellable = few-tellable (marked s paper output .answer) (listed paper);
         told =
             λ m t e.
-            told-apart (marked s paper output .answer) m (few-tellable (marked s paper output .answer) (eleven paper)) t e;
+            told-apart (marked s paper output .answer) m (few-tellable (marked s paper output .answer) (listed paper)) t e;
       }

@@ -2,12 +2,13 @@
 use mathlib.Core.Path.{_≡_}
 use Prim.Native.Nat.{ℕ, _≤_}
 use mathlib.Core.Bool.{Bool, true, false}
-use mathlib.Core.List.{List, [], _∷_}
+use mathlib.Core.List.{List, [], _∷_, List·Memᴰ}
 use Rattle.plan.specs.Lists.{same}
 use Rattle.plan.specs.Sheet.{Outcome, refused, done, refuse_when_else_}
 use Rattle.plan.specs.Finished.{run, finish, too-short}
 use Rattle.plan.specs.Text.{edges-block}
 use Rattle.plan.specs.Visit.{Run}
+use Rattle.claims.specs.Demand1.{refusal-numbers}
 use Rattle.writing.specs.Refusal.{refusal-line}
 use Rattle.marking.specs.declared.answer.Mark.{Mark}
 
@@ -68,8 +69,8 @@ pub record Marking-kept (s paper output : List ℕ) : Type 0 where
   pub wrong : (whole : Run) → marked-run s output ≡ done whole → (paper ≡ edges-block whole → ⊥) → marked s paper output .answer ≡ Mark.Wrong
   -- an empty paper is never right
   pub empty-wrong : (whole : Run) → marked-run s output ≡ done whole → marked s [] output .answer ≡ Mark.Wrong
-  -- a refusal has one of eleven numbers
-  pub numbers : (n : ℕ) → marked s paper output .answer ≡ Mark.Refused n → (1 ≤ n) × (n ≤ 11)
+  -- a refusal has one of the call's numbers
+  pub numbers : (n : ℕ) → marked s paper output .answer ≡ Mark.Refused n → List·Memᴰ n refusal-numbers
   -- what C is told settles the answer
   pub tellable : Tellable (marked s paper output .answer)
   pub told : (m : Mark) → Tellable m → mark-answer (marked s paper output .answer) ≡ mark-answer m → marked s paper output .answer ≡ m
