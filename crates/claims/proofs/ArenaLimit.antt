@@ -16,7 +16,7 @@ use Rattle.plan.specs.declared.rules.Options.{Options}
 use Rattle.plan.specs.declared.rules.Around.{Around}
 use Rattle.plan.specs.Visit.{Run, Looked, looked-in, looks-of, options-of, with-options, ruling, ruled-step, with-implodes}
 use Rattle.plan.proofs.ListLaws.{sum-append}
-use Rattle.claims.proofs.Counts.{sum-eq}
+use Rattle.plan.proofs.Counts.{sum-eq}
 use Rattle.claims.proofs.Sums.{sum-part, sum-set, sum-set-le, sum-beside, mark, below-one}
 use Rattle.claims.proofs.Loads.{load, load-own}
 use Rattle.claims.proofs.Changes.{earlier-of, changed-formed, changed-length, changed-loads}

@@ -15,7 +15,7 @@ use Rattle.plan.specs.Lists.{sum}
 use Rattle.plan.specs.Sheet.{Expr, no-expr, expr-at}
 use Rattle.plan.specs.Look.{switched-off}
 use Rattle.claims.specs.Limits.{Children-earlier}
-use Rattle.claims.proofs.Counts.{sum-le}
+use Rattle.plan.proofs.Counts.{sum-le}
 use Rattle.claims.proofs.Sums.{sum-part}
 use Rattle.claims.proofs.Loads.{kids, load, size, load-kids, kids-same, set-load}
 

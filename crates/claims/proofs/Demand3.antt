@@ -8,7 +8,7 @@ use Rattle.plan.specs.Walks.{down, up, simplify-and-fetch-orderings}
 use Rattle.plan.specs.Text.{printed, edges-block, tally-line}
 use Rattle.plan.specs.Finished.{run, finished}
 use Rattle.claims.specs.Demand3.{Finished-run, Demand-3}
-use Rattle.claims.proofs.Outcomes.{both-done, same-value}
+use Rattle.plan.proofs.Outcomes.{both-done, same-value}
 use Rattle.claims.proofs.Visits.{visits-counted, visits-taken}
 use Rattle.claims.proofs.Removals.{removal}
 use Rattle.claims.proofs.LooksBounded.{looks-down, looks-up}

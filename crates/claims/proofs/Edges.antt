@@ -18,7 +18,7 @@ use Rattle.plan.specs.Visit.{Run, simplify-ir-node-orders, unlink-node, settled
 use Rattle.plan.specs.Walks.{walk}
 use Rattle.claims.specs.Demand3.{leaving-among, Unordered-at}
 use Rattle.claims.proofs.Walks.{two-ways, walk-keeps}
-use Rattle.claims.proofs.Counts.{false-of, T-of, mem-at, count}
+use Rattle.plan.proofs.Counts.{false-of, T-of, mem-at, count}
 
 abbrev pub edge-at : ℕ → Run → Edge
 edge-at k r = getD (r .edges) k no-edge

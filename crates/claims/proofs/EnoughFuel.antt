@@ -12,7 +12,7 @@ use Rattle.plan.specs.Sheet.{Expr, Step, expr-at, step-at}
 use Rattle.plan.specs.Faults.{reach, named}
 use Rattle.plan.specs.Graph.{Edge, is-cache, most-places, sinks, pushes, pop, popped, opens, following, edges-into, grow}
 use Rattle.claims.specs.Limits.{Children-earlier}
-use Rattle.claims.proofs.Counts.{sum-ones, mem-reverse}
+use Rattle.plan.proofs.Counts.{sum-ones, mem-reverse}
 use Rattle.claims.proofs.Plans.{Plan, input-there}
 use Rattle.claims.proofs.Reached.{followed, followed-le}
 use Rattle.claims.proofs.Hits as hits

@@ -16,30 +16,10 @@ use Rattle.plan.specs.Faults.{named}
 use Rattle.plan.specs.Graph.{sinks, is-cache, most-places, pushes, pop, popped, hits}
 use Rattle.plan.proofs.ListLaws.{sum-append}
 use Rattle.claims.specs.WellFormed.{WellFormed}
-use Rattle.claims.proofs.Booleans.{T-eq}
-use Rattle.claims.proofs.Counts.{true-of, sum-reverse, sum-ones, times-other, times-same, mem-reverse, only}
+use Rattle.plan.proofs.Booleans.{T-eq}
+use Rattle.plan.proofs.Counts.{true-of, among-times, times-among, sum-reverse, sum-ones, times-other, times-same, mem-reverse, only}
 use Rattle.claims.proofs.Plans.{Plan, plan-of, root-there, input-there, cache-named}
 use Rattle.claims.proofs.Reached.{followed, followed-le, followed-none, followed-next, all-placed}
-
--- Standing in a list ------------------------------------------------------------------------------------------------------------
-
-pub among-times : (n : ℕ) (l : List ℕ) → T (among n l) → 1 ≤ times n l
-unfolding any? sum
-among-times n [] t = absurd t
-among-times n (x ∷ l) t = by (eqb n x) t (among-times n l)
-  where
-    by : (b : Bool) → T (b || among n l) → (T (among n l) → 1 ≤ times n l) → 1 ≤ (if b then 1 else 0) + times n l
-    by true t rec = omega arith
-    by false t rec = omega (arith, rec t)
-
-pub times-among : (n : ℕ) (l : List ℕ) → 1 ≤ times n l → T (among n l)
-unfolding any? sum
-times-among n [] h = absurd (not-suc-le-zero h)
-times-among n (x ∷ l) h = by (eqb n x) h (times-among n l)
-  where
-    by : (b : Bool) → 1 ≤ (if b then 1 else 0) + times n l → (1 ≤ times n l → T (among n l)) → T (b || among n l)
-    by true h rec = tt
-    by false h rec = rec (omega arith)
 
 -- The pass ----------------------------------------------------------------------------------------------------------------------
 

@@ -14,7 +14,7 @@ use Rattle.plan.specs.Kinds.{same-ir}
 use Rattle.plan.specs.Lists.{if_then_else_, sum}
 use Rattle.plan.specs.Sheet.{Expr, Step, no-expr, expr-at}
 use Rattle.plan.specs.Visit.{implode, implode-over, imploded, with-implodes, with-aggs}
-use Rattle.claims.proofs.Counts.{sum-eq}
+use Rattle.plan.proofs.Counts.{sum-eq}
 use Rattle.claims.proofs.Sums.{sum-below}
 use Rattle.claims.proofs.Loads.{kids, load, load-kids}
 use Rattle.claims.proofs.Changes.{Fits, Formed, earlier-of, nothing-fits}

@@ -1,10 +1,7 @@
-pub mod Outcomes
-pub mod Booleans
 pub mod Taken
 pub mod Walks
 pub mod VisitsKept
 pub mod Visits
-pub mod Counts
 pub mod StepTable
 pub mod Plans
 pub mod CacheIds
@@ -45,7 +42,6 @@ pub mod Printable
 pub mod PrintableStart
 pub mod WithinLimits
 pub mod Demand3
-pub mod Conditions
 pub mod Demand1
 pub mod Visitables
 pub mod EnoughFuel

@@ -16,8 +16,8 @@ use Rattle.plan.specs.Sheet.{Step, done, no-step, step-at}
 use Rattle.plan.specs.Graph.{Edge}
 use Rattle.plan.specs.Visit.{Run, simplify-ir-node-orders, goes, unlink-node, settled, ruling, ruled-step, loosened, relinked, is-into, is-out-of, no-edge, with-input, out-edge}
 use Rattle.claims.specs.Demand3.{leaving}
-use Rattle.claims.proofs.Booleans.{differ, equal}
-use Rattle.claims.proofs.Counts.{true-of, T-of, not-both, of-map, mem-at, some-counted, only-one, count-map, count-same, count-none, count-balance, times-same, times-other, times-of}
+use Rattle.plan.proofs.Booleans.{differ, equal}
+use Rattle.plan.proofs.Counts.{true-of, T-of, not-both, of-map, mem-at, some-counted, only-one, count-map, count-same, count-none, count-balance, times-same, times-other, times-of}
 use Rattle.claims.proofs.StepTable.{has-inputs}
 use Rattle.claims.proofs.Walks.{two-ways}
 use Rattle.claims.proofs.Edges.{edge-at, outs, intos, producer-of, is-producer, other-producer, out-edge-at, leaving-there, leaving-out, out-edge-there, cut, three-ways, at-map}

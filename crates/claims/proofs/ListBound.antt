@@ -14,7 +14,7 @@ use Rattle.plan.specs.Look.{Eos, Look, look, look-along, simplify-projected-exp
 use Rattle.plan.proofs.ListLaws.{and-left}
 use Rattle.claims.specs.Demand3.{records}
 use Rattle.claims.specs.Limits.{Children-earlier}
-use Rattle.claims.proofs.Counts.{sum-le}
+use Rattle.plan.proofs.Counts.{sum-le}
 use Rattle.claims.proofs.Sums.{sum-part, mark}
 use Rattle.claims.proofs.Loads.{kids, load, size, load-le, load-kids, size-records}
 use Rattle.claims.proofs.RevisitCache.{Cache, seen-in}

@@ -13,7 +13,7 @@ use Rattle.plan.specs.Faults.{exprs-named}
 use Rattle.plan.specs.Look.{Eos, simplify-projected-exprs}
 use Rattle.claims.specs.WellFormed.{WellFormed}
 use Rattle.claims.specs.Demand3.{records}
-use Rattle.claims.proofs.Counts.{mem-concat, stands-in}
+use Rattle.plan.proofs.Counts.{mem-concat, stands-in}
 use Rattle.claims.proofs.Sums.{sum-part, sum-at}
 use Rattle.claims.proofs.Loads.{kids, size, load-kids, size-records}
 use Rattle.claims.proofs.Changes.{Formed, earlier-of}

@@ -13,7 +13,7 @@ use Rattle.plan.specs.Sheet.{Expr, no-expr, expr-at}
 use Rattle.plan.specs.Faults.{reach, tree}
 use Rattle.claims.specs.Demand3.{records}
 use Rattle.claims.specs.Limits.{Children-earlier}
-use Rattle.claims.proofs.Counts.{sum-eq, sum-le, sum-concat, sum-ones, stands-in}
+use Rattle.plan.proofs.Counts.{sum-eq, sum-le, sum-concat, sum-ones, stands-in}
 use Rattle.claims.proofs.Sums.{sum-none, mark, mark-own, mark-other}
 
 abbrev pub kids : List Expr → ℕ → List ℕ

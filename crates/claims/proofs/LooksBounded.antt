@@ -12,10 +12,11 @@ use Rattle.plan.specs.Graph.{graph}
 use Rattle.plan.specs.Visit.{Run, simplify-ir-node-orders, unlink-node, settled, looked-in, ruling, ruled-step, out-edge}
 use Rattle.plan.specs.Walks.{begin, down}
 use Rattle.claims.specs.WellFormed.{Accepted, WellFormed}
-use Rattle.claims.specs.Demand3.{Down, Up, Looks-bounded}
+use Rattle.plan.specs.Conditions.{Down, Up}
+use Rattle.claims.specs.Demand3.{Looks-bounded}
 use Rattle.claims.proofs.Taken.{well-formed}
 use Rattle.claims.proofs.Walks.{two-ways, walk-keeps, trace-keeps}
-use Rattle.claims.proofs.Counts.{sum-eq, sum-le}
+use Rattle.plan.proofs.Counts.{sum-eq, sum-le}
 use Rattle.claims.proofs.Sums.{sum-set, sum-set-le, sum-below}
 use Rattle.claims.proofs.Loads.{load}
 use Rattle.claims.proofs.Changes.{changed-formed, changed-length, changed-loads}

@@ -15,7 +15,7 @@ use Rattle.plan.specs.Visit.{is-out-of}
 use Rattle.plan.proofs.ListLaws.{sum-append}
 use Rattle.claims.specs.Demand3.{Is-sort, Cache-after, No-cache-after}
 use Rattle.claims.proofs.Taken.{well-formed}
-use Rattle.claims.proofs.Counts.{mem-at, some-counted, times-of, only}
+use Rattle.plan.proofs.Counts.{mem-at, some-counted, times-of, only}
 use Rattle.claims.proofs.Plans.{Plan, plan-of}
 use Rattle.claims.proofs.Edges.{producer-of}
 use Rattle.claims.proofs.Links.{Clear}

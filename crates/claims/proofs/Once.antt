@@ -11,11 +11,12 @@ use lib.Dec.{T, eqb, eqb→eq, ltb, leb→le}
 use lib.ListN.{length, getD, List·getD-eq-default}
 use Rattle.plan.specs.Lists.{all?, sum, concat-map, numbered, times}
 use Rattle.plan.specs.Sheet.{Expr, Step, Sheet, no-expr, no-step, expr-at, step-at, in-expr-table}
-use Rattle.plan.specs.Faults.{references-right, children-earlier, inputs-earlier, exprs-there, exprs-named, uses-right, use-right, named, cache-ids}
-use Rattle.plan.proofs.ListLaws.{and-left, and-right, of-all, sum-append}
+use Rattle.plan.specs.Faults.{references-right, children-earlier, inputs-earlier, exprs-there, exprs-named, named-right}
+use Rattle.plan.proofs.ListLaws.{and-right, of-all, sum-append}
+use Rattle.plan.proofs.FaultLaws.{expr-passes, step-passes}
 use Rattle.claims.specs.WellFormed.{WellFormed}
-use Rattle.claims.proofs.Booleans.{entry-at, all-at}
-use Rattle.claims.proofs.Counts.{mem-concat, sum-concat}
+use Rattle.plan.proofs.Booleans.{all-at}
+use Rattle.plan.proofs.Counts.{mem-concat, sum-concat}
 use Rattle.claims.proofs.Sums.{sum-below, below-le, below-add, mark, mark-own}
 use Rattle.claims.proofs.Loads.{kids, load, load-kids}
 use Rattle.claims.proofs.Tables.{sort-has-input}
@@ -71,22 +72,8 @@ below-records f (x ∷ l) d = omega (arith, below-front (λ i. f (getD (x ∷ l)
 -- A well-formed sheet --------------------------------------------------------------------------------------------------------
 
 module _ (sh : Sheet) (wf : WellFormed sh) where
-  children-right : T (all? children-earlier (numbered 0 (sh .exprs)))
-  unfolding references-right
-  children-right =
-      let a = all? children-earlier (numbered 0 (sh .exprs)) in
-      let b = all? (inputs-earlier sh) (numbered 0 (sh .steps)) in
-      and-left a b (and-left (a && b) (all? (exprs-there sh) (numbered 0 (sh .steps))) (wf .references))
-
-  entries-right : T (all? (exprs-there sh) (numbered 0 (sh .steps)))
-  unfolding references-right
-  entries-right =
-      let a = all? children-earlier (numbered 0 (sh .exprs)) in
-      let b = all? (inputs-earlier sh) (numbered 0 (sh .steps)) in
-      and-right (a && b) (all? (exprs-there sh) (numbered 0 (sh .steps))) (wf .references)
-
   pub formed-at-start : Formed (sh .exprs)
-  unfolding children-earlier
+  unfolding references-right children-earlier
   formed-at-start p = by (decLt p (length (sh .exprs)))
     where
       by : Dec (p < length (sh .exprs)) → Fits p (expr-at (sh .exprs) p)
@@ -94,16 +81,18 @@ module _ (sh : Sheet) (wf : WellFormed sh) where
           record {
             earlier =
                 λ c m.
-                leb→le (suc c) p (of-all (λ q. ltb q p) (expr-at (sh .exprs) p .children) (entry-at children-earlier (sh .exprs) no-expr children-right p h) c m);
+                leb→le (suc c) p (of-all (λ q. ltb q p) (expr-at (sh .exprs) p .children) (expr-passes (references-right sh) sh (wf .references) p h) c m);
             input = sort-has-input (expr-at (sh .exprs) p) (all-at in-expr-table (sh .exprs) no-expr (wf .exprs-in-table) p h);
           }
       by (no n) = subst (Fits p) (sym (List·getD-eq-default (sh .exprs) no-expr (omega arith))) (nothing-fits p)
 
   entry-inside : (n q : ℕ) → n < length (sh .steps) → List·Memᴰ q (entries (step-at (sh .steps) n)) → q < length (sh .exprs)
-  unfolding exprs-there
+  unfolding references-right exprs-there
   entry-inside n q h m =
+      let x : ℕ × Step = (n, step-at (sh .steps) n) in
       leb→le (suc q) (length (sh .exprs))
-      (of-all (λ q. ltb q (length (sh .exprs))) (entries (step-at (sh .steps) n)) (entry-at (exprs-there sh) (sh .steps) no-step entries-right n h) q m)
+      (of-all (λ q. ltb q (length (sh .exprs))) (entries (step-at (sh .steps) n))
+      (and-right (inputs-earlier sh x) (exprs-there sh x) (step-passes (references-right sh) sh (wf .references) n h)) q m)
 
   named-inside : (m : ℕ) → List·Memᴰ m (exprs-named sh) → m < length (sh .exprs)
   unfolding exprs-named
@@ -116,13 +105,8 @@ module _ (sh : Sheet) (wf : WellFormed sh) where
       ]
 
   pub named-once : (i : ℕ) → i < length (sh .exprs) → times i (exprs-named sh) ≡ 1
-  unfolding uses-right
-  named-once i h =
-      let a = all? (λ (i, e). eqb (times i (exprs-named sh)) 1) (numbered 0 (sh .exprs)) in
-      let b = all? (λ (n, s). use-right (s .kind) (times n (named (sh .steps)))) (numbered 0 (sh .steps)) in
-      let c = all? (λ id. eqb (times id (cache-ids (sh .steps))) 1) (cache-ids (sh .steps)) in
-      let t = entry-at (λ (i, e). eqb (times i (exprs-named sh)) 1) (sh .exprs) no-expr (and-left a b (and-left (a && b) c (wf .uses))) i h in
-      eqb→eq (times i (exprs-named sh)) 1 t
+  unfolding named-right
+  named-once i h = eqb→eq (times i (exprs-named sh)) 1 (expr-passes (named-right sh) sh (wf .uses) i h)
 
   pub once-at-start : Once (sh .exprs) (sh .steps)
   unfolding exprs-named

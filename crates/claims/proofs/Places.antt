@@ -16,8 +16,8 @@ use Rattle.plan.specs.Faults.{named}
 use Rattle.plan.specs.Graph.{Edge, graph, grow, popped, hits, opens, following, edges-into, sinks, is-cache, most-places}
 use Rattle.plan.specs.Visit.{is-into, is-out-of}
 use Rattle.plan.proofs.ListLaws.{sum-append}
-use Rattle.claims.proofs.Booleans.{T-eq, differ, equal}
-use Rattle.claims.proofs.Counts.{false-of, mem-at, sum-reverse, sum-ones, times-same, times-other, same-number, only}
+use Rattle.plan.proofs.Booleans.{T-eq, differ, equal}
+use Rattle.plan.proofs.Counts.{false-of, mem-at, sum-reverse, sum-ones, times-same, times-other, same-number, only}
 use Rattle.claims.proofs.Plans.{Plan, root-there, input-there, cache-named, cache-used}
 use Rattle.claims.proofs.Reached.{followed, followed-le, followed-none, followed-next, all-placed}
 use Rattle.claims.proofs.Hits.{hits-named}

@@ -12,13 +12,15 @@ use Rattle.plan.specs.declared.ir.IR.{IR}
 use Rattle.plan.specs.Kinds.{ir-number, same-ir}
 use Rattle.plan.specs.Lists.{if_then_else_, all?, select, sum, numbered, times}
 use Rattle.plan.specs.Sheet.{Step, Sheet, no-step, step-at, in-step-table}
-use Rattle.plan.specs.Faults.{references-right, children-earlier, inputs-earlier, exprs-there, uses-right, use-right, exprs-named, named, cache-ids}
+use Rattle.plan.specs.Faults.{references-right, inputs-earlier, exprs-there, use-right, named, named-right}
 use Rattle.plan.specs.Graph.{sinks, is-cache}
 use Rattle.plan.proofs.ListLaws.{and-left, and-right, of-all}
 use Rattle.claims.specs.WellFormed.{WellFormed}
-use Rattle.claims.proofs.Booleans.{differ, equal, all-at, entry-at}
-use Rattle.claims.proofs.Counts.{true-of, false-of, T-of, not-both, mem-concat, count-none, times-of, only}
-use Rattle.claims.proofs.StepTable.{same-kind, in-range, has-inputs, sort-has-one-input}
+use Rattle.plan.proofs.FaultLaws.{step-passes}
+use Rattle.plan.proofs.Booleans.{differ, equal, all-at}
+use Rattle.plan.proofs.Counts.{true-of, false-of, T-of, not-both, mem-concat, count-none, times-of, only}
+use Rattle.claims.proofs.StepTable.{has-inputs, sort-has-one-input}
+use Rattle.plan.proofs.KindNumbers.{in-range, same-kind}
 
 -- The roots -------------------------------------------------------------------------------------------------------------------
 
@@ -108,19 +110,9 @@ module _ (sh : Sheet) (w : WellFormed sh) where
   abbrev ps : List Step
   ps = sh .steps
 
-  inputs-all : T (all? (inputs-earlier sh) (numbered 0 ps))
+  inputs-all : (n : ℕ) → n < length ps → T (inputs-earlier sh (n, step-at ps n))
   unfolding references-right
-  inputs-all =
-      let a = all? children-earlier (numbered 0 (sh .exprs)) in
-      let b = all? (inputs-earlier sh) (numbered 0 ps) in
-      and-right a b (and-left (a && b) (all? (exprs-there sh) (numbered 0 ps)) (w .references))
-
-  uses-all : T (all? (λ (n, s). use-right (s .kind) (times n (named ps))) (numbered 0 ps))
-  unfolding uses-right
-  uses-all =
-      let a = all? (λ (i, e). eqb (times i (exprs-named sh)) 1) (numbered 0 (sh .exprs)) in
-      let b = all? (λ (n, s). use-right (s .kind) (times n (named ps))) (numbered 0 ps) in
-      and-right a b (and-left (a && b) (all? (λ id. eqb (times id (cache-ids ps)) 1) (cache-ids ps)) (w .uses))
+  inputs-all n h = and-left (inputs-earlier sh (n, step-at ps n)) (exprs-there sh (n, step-at ps n)) (step-passes (references-right sh) sh (w .references) n h)
 
   -- an input is an earlier step, and no Sink
   input-right : (n m : ℕ) → List·Memᴰ m (step-at ps n .inputs) → (m < length ps) × (m < n) × (same-ir (step-at ps m .kind) IR.Sink ≡ false)
@@ -130,7 +122,7 @@ module _ (sh : Sheet) (w : WellFormed sh) where
       by : Dec (n < length ps) → (m < length ps) × (m < n) × (same-ir (step-at ps m .kind) IR.Sink ≡ false)
       by (yes h) =
           let sink = same-ir (step-at ps m .kind) IR.Sink in
-          let all = entry-at (inputs-earlier sh) ps no-step inputs-all n h in
+          let all = inputs-all n h in
           let ok = of-all (λ m. ltb m n && not (same-ir (step-at ps m .kind) IR.Sink)) (step-at ps n .inputs) all m i in
           let before = leb→le (suc m) n (and-left (ltb m n) (not sink) ok) in
           (omega arith, before, false-of sink (λ s. T-not sink (and-right (ltb m n) (not sink) ok) s))
@@ -147,7 +139,8 @@ module _ (sh : Sheet) (w : WellFormed sh) where
       differ n m (λ e. h (subst (λ x. (x < length ps) × (same-ir (step-at ps x .kind) IR.Sink ≡ false)) (sym e) (a, c))))
 
   used-right : (n : ℕ) → n < length ps → T (use-right (step-at ps n .kind) (times n (named ps)))
-  used-right n h = entry-at (λ (n, s). use-right (s .kind) (times n (named ps))) ps no-step uses-all n h
+  unfolding named-right
+  used-right n h = step-passes (named-right sh) sh (w .uses) n h
 
   once-named : (n : ℕ) → T (not (is-cache ps n)) → times n (sinks ps) + times n (named ps) ≤ 1
   once-named n h = by (decLt n (length ps))

@@ -14,7 +14,7 @@ use Rattle.plan.specs.Lists.{if_then_else_, sum}
 use Rattle.plan.specs.Sheet.{Expr, no-expr, expr-at}
 use Rattle.plan.specs.Orders.{ExprOrderAcc, add}
 use Rattle.plan.specs.Look.{Eos, Look, look-along, look-again, one-look, ALLOW-DEORDER, replace-by-input}
-use Rattle.claims.proofs.Counts.{sum-le}
+use Rattle.plan.proofs.Counts.{sum-le}
 use Rattle.claims.proofs.Sums.{sum-part, mark}
 use Rattle.claims.proofs.Loads.{load, size, load-le, outside-own}
 use Rattle.claims.proofs.RevisitCache.{Cache, seen-in, seen}

@@ -12,16 +12,17 @@ use Rattle.plan.specs.declared.ir.IR.{IR}
 use Rattle.plan.specs.Kinds.{same-ir}
 use Rattle.plan.specs.Lists.{if_then_else_, all?, select, numbered}
 use Rattle.plan.specs.Sheet.{Step, Sheet, _then_, no-expr, no-step, expr-at, step-at, in-expr-table, in-step-table}
-use Rattle.plan.specs.Faults.{references-right, children-earlier, inputs-earlier, exprs-there}
+use Rattle.plan.specs.Faults.{references-right, inputs-earlier, exprs-there}
 use Rattle.plan.specs.Graph.{Edge, graph, grow, popped, following, opens, edges-into, sinks, most-places}
 use Rattle.plan.specs.Visit.{no-edge}
 use Rattle.plan.specs.Walks.{begin}
-use Rattle.plan.proofs.ListLaws.{and-left, and-right, of-all}
+use Rattle.plan.proofs.ListLaws.{and-left, of-all}
+use Rattle.plan.proofs.FaultLaws.{step-passes}
 use Rattle.claims.specs.WellFormed.{WellFormed}
-use Rattle.claims.proofs.Booleans.{all-at, entry-at}
+use Rattle.plan.proofs.Booleans.{all-at}
 use Rattle.claims.proofs.Tables.{few-children, small-option, of-step-table}
 use Rattle.claims.proofs.Sizes.{few-steps}
-use Rattle.claims.proofs.Counts.{mem-at}
+use Rattle.plan.proofs.Counts.{mem-at}
 use Rattle.claims.proofs.Every.{Every, every-of, every-member, every-both}
 use Rattle.claims.proofs.Printable.{Slim, Plain, Short-edge, Printable}
 
@@ -84,12 +85,11 @@ graph-short ps h plain =
 -- A well-formed sheet ----------------------------------------------------------------------------------------------------------
 
 module _ (sh : Sheet) (wf : WellFormed sh) where
-  inputs-right : T (all? (inputs-earlier sh) (numbered 0 (sh .steps)))
+  inputs-right : (n : ℕ) → n < length (sh .steps) → T (inputs-earlier sh (n, step-at (sh .steps) n))
   unfolding references-right
-  inputs-right =
-      let a = all? children-earlier (numbered 0 (sh .exprs)) in
-      let b = all? (inputs-earlier sh) (numbered 0 (sh .steps)) in
-      and-right a b (and-left (a && b) (all? (exprs-there sh) (numbered 0 (sh .steps))) (wf .references))
+  inputs-right n h =
+      let x : ℕ × Step = (n, step-at (sh .steps) n) in
+      and-left (inputs-earlier sh x) (exprs-there sh x) (step-passes (references-right sh) sh (wf .references) n h)
 
   slim-at-start : Every Slim no-expr (sh .exprs)
   slim-at-start =
@@ -106,7 +106,7 @@ module _ (sh : Sheet) (wf : WellFormed sh) where
       (λ n h.
       let s = step-at (sh .steps) n in
       let t = of-step-table s (all-at in-step-table (sh .steps) no-step (wf .steps-in-table) n h) in
-      let u = entry-at (inputs-earlier sh) (sh .steps) no-step inputs-right n h in
+      let u = inputs-right n h in
       record {
         small = record { a = t .a; b = t .b; c = t .c };
         few-inputs = t .few-inputs;

@@ -13,8 +13,8 @@ use Rattle.plan.specs.Lists.{if_then_else_, sum, numbered, times}
 use Rattle.plan.specs.Sheet.{Step, no-step, step-at}
 use Rattle.plan.specs.Faults.{named}
 use Rattle.plan.specs.Graph.{sinks}
-use Rattle.claims.proofs.Booleans.{differ}
-use Rattle.claims.proofs.Counts.{true-of, entry-of, sum-eq, sum-le, sum-numbered, sum-concat, count-none, only}
+use Rattle.plan.proofs.Booleans.{differ}
+use Rattle.plan.proofs.Counts.{true-of, entry-of, sum-eq, sum-le, sum-numbered, sum-concat, count-none, only}
 use Rattle.claims.proofs.Plans.{Plan}
 
 -- what the inputs of the open steps weigh, by a weighing of the steps

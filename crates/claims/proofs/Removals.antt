@@ -17,13 +17,14 @@ use Rattle.plan.specs.Visit.{Run, simplify-ir-node-orders, goes, unlink-node, s
 use Rattle.plan.specs.Walks.{walk, trace, then-all, begin, down, up}
 use Rattle.plan.proofs.ListLaws.{and-right}
 use Rattle.claims.specs.WellFormed.{Accepted}
-use Rattle.claims.specs.Demand3.{leaving, Unordered-at, Removed-at, Is-sort, No-slice, Down, Up, Removed-down, Removed, Edge-of, Sorts-removed}
-use Rattle.claims.proofs.Outcomes.{same-value, both-done}
+use Rattle.plan.specs.Conditions.{Down, Up}
+use Rattle.claims.specs.Demand3.{leaving, Unordered-at, Removed-at, Is-sort, No-slice, Removed-down, Removed, Edge-of, Sorts-removed}
+use Rattle.plan.proofs.Outcomes.{same-value, both-done}
 use Rattle.claims.proofs.Taken.{well-formed}
 use Rattle.claims.proofs.Walks.{two-ways, walk-keeps, trace-keeps, walk-at}
 use Rattle.claims.proofs.Visits.{walked}
-use Rattle.claims.proofs.Counts.{T-of, not-both, mem-at, counted-in, times-of, stands-in, only}
-use Rattle.claims.proofs.StepTable.{in-range}
+use Rattle.plan.proofs.Counts.{T-of, not-both, mem-at, counted-in, times-of, stands-in, only}
+use Rattle.plan.proofs.KindNumbers.{in-range}
 use Rattle.claims.proofs.Plans.{Plan, plan-of}
 use Rattle.claims.proofs.Places.{graph-ordered}
 use Rattle.claims.proofs.Edges.{edge-at, out-edge-at, leaving-there, leaving-out, unordered-there, walk-looser}

@@ -10,7 +10,7 @@ use Rattle.plan.specs.Sheet.{Step, done, step-at}
 use Rattle.plan.specs.Graph.{Edge}
 use Rattle.plan.specs.Visit.{Run, simplify-ir-node-orders, goes, settled, ruling, ruled-step, loosened, is-out-of, no-edge, out-edge}
 use Rattle.claims.proofs.Walks.{two-ways}
-use Rattle.claims.proofs.Counts.{false-of, T-of, not-both, mem-at, counted-in, only-one, count-map}
+use Rattle.plan.proofs.Counts.{false-of, T-of, not-both, mem-at, counted-in, only-one, count-map}
 use Rattle.claims.proofs.Edges.{edge-at, outs, out-edge-there}
 use Rattle.claims.proofs.Stays.{unsliced-sort, ruling-sort, sorts-kept, goes-sort, Held, Kept, kept-part, kept-visit}
 

@@ -16,12 +16,13 @@ use Rattle.plan.specs.Graph.{graph}
 use Rattle.plan.specs.Visit.{Run, simplify-ir-node-orders, unlink-node, settled, looked-in, looks-of, ruling, out-edge, with-input}
 use Rattle.plan.specs.Walks.{begin, down, up}
 use Rattle.claims.specs.WellFormed.{WellFormed}
-use Rattle.claims.specs.Demand3.{Down, Up, records}
+use Rattle.plan.specs.Conditions.{Down, Up}
+use Rattle.claims.specs.Demand3.{records}
 use Rattle.claims.specs.Limits.{Visit-limits}
 use Rattle.claims.proofs.Walks.{two-ways, walk-keeps, trace-keeps}
 use Rattle.claims.proofs.Visits.{walked}
 use Rattle.claims.proofs.Sizes.{few-steps, few-places, few-edges}
-use Rattle.claims.proofs.Counts.{sum-le, sum-ones}
+use Rattle.plan.proofs.Counts.{sum-le, sum-ones}
 use Rattle.claims.proofs.Sums.{sum-set, sum-below}
 use Rattle.claims.proofs.Loads.{size-records}
 use Rattle.claims.proofs.Changes.{earlier-of, changed-length}

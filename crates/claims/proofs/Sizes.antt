@@ -17,10 +17,10 @@ use Rattle.plan.specs.Visit.{Run, simplify-ir-node-orders, unlink-node, settled
 use Rattle.plan.specs.Walks.{begin, down}
 use Rattle.plan.proofs.ListLaws.{and-left, and-right}
 use Rattle.claims.specs.WellFormed.{WellFormed}
-use Rattle.claims.specs.Demand3.{Down, Up}
+use Rattle.plan.specs.Conditions.{Down, Up}
 use Rattle.claims.proofs.Walks.{two-ways, walk-keeps, trace-keeps}
 use Rattle.claims.proofs.Visits.{visited, walked, length-numbered, places-counted}
-use Rattle.claims.proofs.Counts.{sum-ones, select-le}
+use Rattle.plan.proofs.Counts.{sum-ones, select-le}
 use Rattle.claims.proofs.StepTable.{few-inputs}
 use Rattle.claims.proofs.Plans.{plan-of}
 use Rattle.claims.proofs.Places.{graph-ordered}

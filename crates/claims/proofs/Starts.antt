@@ -16,7 +16,7 @@ use Rattle.plan.specs.Faults.{named}
 use Rattle.plan.specs.Graph.{Edge, graph, sinks, is-cache}
 use Rattle.plan.specs.Walks.{begin}
 use Rattle.claims.specs.Demand3.{Is-sort}
-use Rattle.claims.proofs.Counts.{mem-at, sum-reverse, times-of, times-same, only}
+use Rattle.plan.proofs.Counts.{mem-at, sum-reverse, times-of, times-same, only}
 use Rattle.claims.proofs.Plans.{Plan}
 use Rattle.claims.proofs.Edges.{outs, same-some}
 use Rattle.claims.proofs.Places.{Later, Ordered, graph-ordered}

@@ -22,7 +22,7 @@ use Rattle.plan.specs.declared.rules.Observable.{Observable}
 use Rattle.plan.specs.declared.rules.Ruled.{Ruled}
 use Rattle.plan.specs.Visit.{Run, arm, rule, unordered-union, merge-sorted-all, simplify-ir-node-orders, goes, ruling, ruled-step, looked-in, looks-of, is-out-of, no-edge, out-edge}
 use Rattle.plan.proofs.ListLaws.{and-left}
-use Rattle.claims.proofs.StepTable.{same-kind}
+use Rattle.plan.proofs.KindNumbers.{same-kind}
 use Rattle.claims.proofs.Visits.{visited}
 use Rattle.claims.proofs.Edges.{Apart, edge-at, visit-apart}
 

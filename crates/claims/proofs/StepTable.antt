@@ -14,22 +14,11 @@ use Rattle.plan.proofs.KindNumbers.{ir-back}
 use Rattle.plan.specs.Lists.{all?}
 use Rattle.plan.specs.Sheet.{Step, no-step, step-at, step-table, in-step-table}
 use Rattle.plan.proofs.ListLaws.{and-left, and-right}
-use Rattle.claims.proofs.Booleans.{all-at}
+use Rattle.plan.proofs.Booleans.{all-at}
 
 -- Kinds and their numbers -----------------------------------------------------------------------------------------------------
 
-pub same-kind : (k j : IR) → T (same-ir k j) → k ≡ j
-same-kind k j t = sym (ir-back k) ∙ ap ir (eqb→eq (ir-number k) (ir-number j) t) ∙ ir-back j
-
--- a step of a kind other than Scan is there
-pub in-range : (ps : List Step) (n : ℕ) {k : ℕ} → ir-number (step-at ps n .kind) ≡ suc k → n < length ps
-in-range ps n {k} e = by (decLt n (length ps))
-  where
-    by : Dec (n < length ps) → n < length ps
-    by (yes h) = h
-    by (no h) = absurd (let z = ap (λ (s : Step). ir-number (s .kind)) (List·getD-eq-default ps no-step {n = n} (omega arith)) in omega (arith, z))
-
--- and so is one with an input
+-- a step with an input is there
 pub has-inputs : (ps : List Step) (n : ℕ) → 1 ≤ length (step-at ps n .inputs) → n < length ps
 has-inputs ps n h = by (decLt n (length ps))
   where

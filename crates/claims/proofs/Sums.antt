@@ -10,7 +10,7 @@ use mathlib.Core.List.{List, [], _∷_, List·Memᴰ, List·Memᴰ·head, List·
 use lib.Dec.{T, eqb, eqb-refl}
 use lib.ListN.{length, getD, set}
 use Rattle.plan.specs.Lists.{if_then_else_, sum}
-use Rattle.claims.proofs.Booleans.{differ}
+use Rattle.plan.proofs.Booleans.{differ}
 
 module _ {A : Type 0} where
   pub sum-none : (w : A → ℕ) (l : List A) → ((a : A) → List·Memᴰ a l → w a ≡ 0) → sum w l ≡ 0

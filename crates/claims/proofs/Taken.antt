@@ -1,5 +1,5 @@
 -- Every accepted sheet is well formed.
-use mathlib.Core.Path.{_≡_, subst}
+use mathlib.Core.Path.{_≡_, sym, _∙_, subst}
 use Prim.Native.Nat.{ℕ}
 use native.Mathlib.Omega.{arith}
 use mathlib.Core.Bool.{_&&_, not}
@@ -7,13 +7,14 @@ use mathlib.Core.Option.{Option, none, some}
 use mathlib.Core.List.{List, [], _∷_}
 use lib.Dec.{T, ltb, leb, eqb}
 use lib.ListN.{length, getD}
-use Rattle.plan.specs.Lists.{all?, sum, empty?}
+use Rattle.plan.specs.Lists.{all?, sum, empty?, numbered}
 use Rattle.plan.specs.Sheet.{Sheet, done, Line, E, P, expr-of, step-of, expr-fits, step-fits, in-expr-table, in-step-table, over-limits, with-expr, with-step, within-limits, line-of, read-line, read-lines, no-lines, read, parts, too-long, no-plan, expr-count}
-use Rattle.plan.specs.Faults.{checked, references-right, uses-right, fields-right}
+use Rattle.plan.specs.Faults.{lines, references-right, named-right, id-right, field-right, checked}
 use Rattle.plan.proofs.ListLaws.{and-right}
+use Rattle.plan.proofs.Checked.{checked-is}
 use Rattle.claims.specs.WellFormed.{Accepted, WellFormed}
-use Rattle.claims.proofs.Outcomes.{same-value, came, both-done, passed, passed-not}
-use Rattle.claims.proofs.Booleans.{all-append}
+use Rattle.plan.proofs.Outcomes.{same-value, came, both-done, passed, passed-not}
+use Rattle.plan.proofs.Booleans.{all-append}
 
 -- what holds after every line
 record Read (sh : Sheet) : Type 0 where
@@ -59,18 +60,19 @@ unfolding all? over-limits expr-count sum
 nothing-read = record { exprs = tt; steps = tt; within = tt }
 
 pub well-formed : (s : List ℕ) (sh : Sheet) → Accepted s sh → WellFormed sh
-unfolding read checked
+unfolding read
 well-formed s sh e =
     let (sh₁, r, c) = both-done (read s) checked e in
     let (_, r₁) = passed (too-long s) _ _ r in
-    let (sh₂, lines, r₂) = both-done (read-lines (parts 10 s) no-lines) _ r₁ in
+    let (sh₂, reads, r₂) = both-done (read-lines (parts 10 s) no-lines) _ r₁ in
     let (plan, r₃) = passed (no-plan sh₂) _ _ r₂ in
     let same : sh₂ ≡ sh₁ = same-value r₃ in
-    let k = subst Read same (all-lines (parts 10 s) no-lines nothing-read lines) in
-    let (refs, c₁) = passed-not (references-right sh₁) _ _ c in
-    let (uses, c₂) = passed-not (uses-right sh₁) _ _ c₁ in
-    let (fields, c₃) = passed-not (fields-right (sh₁ .exprs)) _ _ c₂ in
-    subst WellFormed (same-value c₃)
+    let k = subst Read same (all-lines (parts 10 s) no-lines nothing-read reads) in
+    let (refs, c₁) = passed-not (all? (references-right sh₁) (lines sh₁)) _ _ (sym (checked-is sh₁) ∙ c) in
+    let (uses, c₂) = passed-not (all? (named-right sh₁) (lines sh₁)) _ _ c₁ in
+    let (ids, c₃) = passed-not (all? (id-right (sh₁ .steps)) (numbered 0 (sh₁ .steps))) _ _ c₂ in
+    let (fields, c₄) = passed-not (all? (field-right (sh₁ .exprs)) (numbered 0 (sh₁ .exprs))) _ _ c₃ in
+    subst WellFormed (same-value c₄)
     (record {
       exprs-in-table = k .exprs;
       steps-in-table = k .steps;
@@ -78,5 +80,6 @@ well-formed s sh e =
       has-plan = subst (λ (x : Sheet). T (not (no-plan x))) same plan;
       references = refs;
       uses = uses;
+      ids = ids;
       fields = fields;
     })

@@ -12,7 +12,7 @@ use Rattle.plan.specs.Look.{Eos, simplify-projected-exprs}
 use Rattle.plan.specs.Visit.{Run, Looked, looked-in, looks-of, around, options-of, allow-deordering-top}
 use Rattle.plan.proofs.ListLaws.{sum-append}
 use Rattle.claims.specs.Demand3.{records, List-bounded, Looks-bounded}
-use Rattle.claims.proofs.Counts.{times-of}
+use Rattle.plan.proofs.Counts.{times-of}
 use Rattle.claims.proofs.Sums.{sum-part, sum-at, sum-below, below-one, below-if-counted, mark}
 use Rattle.claims.proofs.Loads.{load, load-own, load-records, among-records}
 use Rattle.claims.proofs.Changes.{Formed, earlier-of, Changes, changes-on, changed-formed, changed-length, changed-loads}

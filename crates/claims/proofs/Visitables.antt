@@ -18,8 +18,8 @@ use Rattle.plan.specs.Walks.{begin, down}
 use Rattle.claims.specs.WellFormed.{WellFormed}
 use Rattle.claims.specs.Visitable.{Visitable}
 use Rattle.claims.proofs.Walks.{two-ways, walk-keeps}
-use Rattle.claims.proofs.Booleans.{all-at}
-use Rattle.claims.proofs.Counts.{mem-at, mem-concat, only, times-of, stands-in}
+use Rattle.plan.proofs.Booleans.{all-at}
+use Rattle.plan.proofs.Counts.{mem-at, mem-concat, only, times-of, stands-in}
 use Rattle.claims.proofs.Every.{Every, every-of, every-set}
 use Rattle.claims.proofs.StepTable.{has-inputs}
 use Rattle.claims.proofs.Plans.{Plan, root-there, input-there, plan-of}

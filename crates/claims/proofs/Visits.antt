@@ -10,7 +10,7 @@ use Rattle.plan.specs.Sheet.{Step, Sheet, Outcome, done}
 use Rattle.plan.specs.Graph.{Edge, graph, grow, popped, following, edges-into, sinks, most-places}
 use Rattle.plan.specs.Visit.{Run, simplify-ir-node-orders, unlink-node, settled}
 use Rattle.plan.specs.Walks.{walk, trace, then-all, begin, down, up}
-use Rattle.claims.proofs.Outcomes.{both-done}
+use Rattle.plan.proofs.Outcomes.{both-done}
 use Rattle.claims.proofs.Walks.{two-ways}
 use Rattle.claims.proofs.VisitsKept.{visit-visits}
 

@@ -9,7 +9,7 @@ use Rattle.plan.specs.Lists.{if_then_else_}
 use Rattle.plan.specs.Sheet.{Outcome, refused, done, _then_}
 use Rattle.plan.specs.Visit.{Run, simplify-ir-node-orders, goes, unlink-node, settle, settled, refusal-in}
 use Rattle.plan.specs.Walks.{walk, trace, then-all}
-use Rattle.claims.proofs.Outcomes.{came, both-done}
+use Rattle.plan.proofs.Outcomes.{came, both-done}
 
 -- a visit removes the step, or settles it
 pub two-ways : (n : ℕ) (r : Run) {r′ : Run} → simplify-ir-node-orders n r ≡ done r′

@@ -14,7 +14,7 @@ use Rattle.plan.specs.Finished.{run, finished}
 use Rattle.claims.specs.WellFormed.{Accepted}
 use Rattle.claims.specs.Limits.{Within-limits}
 use Rattle.claims.proofs.Sizes.{few-places}
-use Rattle.claims.proofs.Outcomes.{both-done, same-value}
+use Rattle.plan.proofs.Outcomes.{both-done, same-value}
 use Rattle.claims.proofs.Taken.{well-formed}
 use Rattle.claims.proofs.Walks.{walk-keeps}
 use Rattle.claims.proofs.Once.{entries}

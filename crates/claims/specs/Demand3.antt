@@ -16,18 +16,11 @@ use Rattle.plan.specs.Visit.{Run, simplify-ir-node-orders, looked-in, around, o
 use Rattle.plan.specs.Walks.{begin, down, up, trace}
 use Rattle.plan.specs.Text.{line, edge-line, exprs-block, steps-block}
 use Rattle.plan.specs.Finished.{finished}
+use Rattle.plan.specs.Conditions.{Down, Up}
 use Rattle.claims.specs.WellFormed.{Accepted}
 use Rattle.claims.specs.LooksMade.{made-in-list}
 
--- The visits of a run: the step n is visited in the state r --------------------------------------------------------------------
-
--- on the way down
-abbrev pub Down : Sheet → ℕ → Run → Type 0
-Down sh n r = List·Memᴰ (n, r) (trace (graph (sh .steps) .0) (begin sh))
-
--- on the way up, after a downward walk that ended in the state `half`
-abbrev pub Up : Run → ℕ → Run → Type 0
-Up half n r = List·Memᴰ (n, r) (trace (half .back) half)
+-- Visits: the step n is visited in the state r, on the way down or, after a downward walk that ended in the state `half`, on the way up ---
 
 abbrev pub Visited : Sheet → Run → ℕ → Run → Type 0
 Visited sh half n r = Down sh n r ⊎ Up half n r

@@ -9,7 +9,7 @@ use Rattle.plan.specs.Visit.{Run, looked-in}
 use Rattle.plan.specs.Walks.{down}
 use Rattle.plan.specs.Finished.{finished}
 use Rattle.claims.specs.WellFormed.{Accepted}
-use Rattle.claims.specs.Demand3.{Down, Up}
+use Rattle.plan.specs.Conditions.{Down, Up}
 
 -- every record's children are earlier, so that their trees are lower
 abbrev pub Children-earlier : List Expr → Type 0

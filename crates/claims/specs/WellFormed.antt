@@ -4,9 +4,9 @@ use mathlib.Core.List.{List}
 use mathlib.Core.Bool.{not}
 use Prim.Native.Nat.{ℕ}
 use lib.Dec.{T}
-use Rattle.plan.specs.Lists.{all?}
+use Rattle.plan.specs.Lists.{all?, numbered}
 use Rattle.plan.specs.Sheet.{Sheet, done, _then_, read, in-expr-table, in-step-table, over-limits, no-plan}
-use Rattle.plan.specs.Faults.{checked, references-right, uses-right, fields-right}
+use Rattle.plan.specs.Faults.{lines, references-right, named-right, id-right, field-right, checked}
 
 -- the bytes s are accepted, as the sheet sh
 abbrev pub Accepted : List ℕ → Sheet → Type 0
@@ -17,6 +17,7 @@ pub record WellFormed (sh : Sheet) : Type 0 where
   pub steps-in-table : T (all? in-step-table (sh .steps))
   pub within-limits : T (not (over-limits sh))
   pub has-plan : T (not (no-plan sh))
-  pub references : T (references-right sh)
-  pub uses : T (uses-right sh)
-  pub fields : T (fields-right (sh .exprs))
+  pub references : T (all? (references-right sh) (lines sh))
+  pub uses : T (all? (named-right sh) (lines sh))
+  pub ids : T (all? (id-right (sh .steps)) (numbered 0 (sh .steps)))
+  pub fields : T (all? (field-right (sh .exprs)) (numbered 0 (sh .exprs)))

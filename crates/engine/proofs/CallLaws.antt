@@ -21,7 +21,7 @@ use Rattle.claims.specs.Demand1.{Demand-1, Finished-call, Refused-call}
 use Rattle.claims.specs.Demand3.{Finished-run}
 use Rattle.claims.proofs.Demand1.{demand-1, run-printed}
 use Rattle.claims.proofs.Demand3.{demand-3}
-use Rattle.claims.proofs.Outcomes.{same-value}
+use Rattle.plan.proofs.Outcomes.{same-value}
 use Rattle.claims.proofs.Plans as plans
 use Rattle.claims.proofs.Taken.{well-formed}
 use Rattle.reading.specs.Held.{sheet}

@@ -11,7 +11,8 @@ use Rattle.plan.specs.Text.{line, edge-line}
 use Rattle.plan.specs.Visit.{Run}
 use Rattle.plan.specs.Walks.{down}
 use Rattle.claims.specs.WellFormed.{Accepted}
-use Rattle.claims.specs.Demand3.{Down, Up, Looks-bounded, Finished-run}
+use Rattle.plan.specs.Conditions.{Down, Up}
+use Rattle.claims.specs.Demand3.{Looks-bounded, Finished-run}
 
 -- a finished sheet stands at the front of the output
 pub record Stands (s exit : List ℕ) (f : Finished) : Type 0 where

@@ -10,7 +10,7 @@ use Rattle.plan.specs.Sheet.{Sheet, no-expr, expr-at}
 use Rattle.storage.specs.Stored.{stored-expr, stored-exprs, Expr-formed}
 use Rattle.storage.proofs.Laws.{table-at, length-exprs}
 use Rattle.claims.specs.WellFormed.{WellFormed}
-use Rattle.claims.proofs.Counts.{mem-at}
+use Rattle.plan.proofs.Counts.{mem-at}
 use Rattle.claims.proofs.Every.{place-of}
 use Rattle.claims.proofs.Changes.{Fits}
 use Rattle.claims.proofs.Changes as claims

@@ -17,11 +17,12 @@ use Rattle.plan.specs.declared.rules.Observable.{Observable}
 use Rattle.plan.specs.Visit.{Run, arm, rule, ruling, looked-in, looks-of, simplify-ir-node-orders}
 use Rattle.plan.specs.Walks.{begin, down, up, simplify-and-fetch-orderings}
 use Rattle.claims.specs.WellFormed.{WellFormed}
-use Rattle.claims.proofs.Booleans.{T-eq, all-at}
+use Rattle.plan.proofs.Booleans.{T-eq, all-at}
 use Rattle.claims.proofs.CacheIds.{one-line-each-id}
-use Rattle.claims.proofs.Outcomes.{both-done}
+use Rattle.plan.proofs.Outcomes.{both-done}
 use Rattle.claims.proofs.Rules.{ruled-by}
-use Rattle.claims.proofs.StepTable.{same-kind, in-range, cache-has-one-input}
+use Rattle.claims.proofs.StepTable.{cache-has-one-input}
+use Rattle.plan.proofs.KindNumbers.{in-range, same-kind}
 use Rattle.claims.proofs.Visitables.{step-kept, inputs-kept}
 use Rattle.claims.proofs.Walks.{walk-keeps}
 use Rattle.ir_graph.specs.UpdateCaches.{first-lines, update-cache-nodes, Updatable}

@@ -18,11 +18,11 @@ use Rattle.plan.specs.Graph.{sinks, is-cache, most-places, pushes, pop, popped}
 use Rattle.storage.specs.Stored.{stored-step, stored-steps, Step-formed}
 use Rattle.plan.proofs.ListLaws.{sum-append}
 use Rattle.storage.proofs.Laws.{length-steps}
-use Rattle.claims.proofs.Booleans.{T-eq}
-use Rattle.claims.proofs.Counts.{sum-reverse, sum-le, sum-ones, times-same, times-other, mem-reverse, mem-at, only}
+use Rattle.plan.proofs.Booleans.{T-eq}
+use Rattle.plan.proofs.Counts.{sum-reverse, sum-le, sum-ones, times-same, times-other, mem-reverse, mem-at, only, among-times, times-among}
 use Rattle.claims.proofs.Plans.{Plan, root-there, input-there, cache-named}
 use Rattle.claims.proofs.Reached.{followed-le, followed-none}
-use Rattle.claims.proofs.Hits.{Counted, counted-next, among-times, times-among}
+use Rattle.claims.proofs.Hits.{Counted, counted-next}
 use Rattle.ir_graph.specs.Pushed.{Pushed}
 use Rattle.ir_graph.specs.Turns.{cached, pushed-by, hit}
 use Rattle.ir_graph.specs.Hits.{Hits-counted, Met-noted}

@@ -12,7 +12,7 @@ use Rattle.plan.specs.Lists.{if_then_else_}
 use Rattle.plan.specs.Sheet.{Step, Sheet, step-at, step-of}
 use Rattle.storage.specs.Stored.{stored-step}
 use Rattle.claims.specs.WellFormed.{WellFormed}
-use Rattle.claims.proofs.StepTable.{same-kind}
+use Rattle.plan.proofs.KindNumbers.{same-kind}
 use Rattle.claims.proofs.CacheIds.{one-line-each-id}
 use Rattle.ir_graph.specs.declared.ir_node_key.IRNodeKey.{IRNodeKey}
 use Rattle.ir_graph.specs.NodeKey.{node-key}

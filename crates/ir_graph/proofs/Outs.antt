@@ -17,7 +17,7 @@ use Rattle.plan.specs.Sheet.{Step, step-at}
 use Rattle.plan.specs.Graph.{Edge, graph, sinks, is-cache}
 use Rattle.plan.specs.Visit.{is-out-of, no-edge}
 use Rattle.claims.specs.Demand3.{leaving-among}
-use Rattle.claims.proofs.Counts.{counted-twice, only}
+use Rattle.plan.proofs.Counts.{counted-twice, only}
 use Rattle.claims.proofs.Edges.{outs, leaving-there, leaving-out, is-producer, producer-of, same-some}
 use Rattle.claims.proofs.Plans.{Plan}
 use Rattle.claims.proofs.Places.{graph-ordered}

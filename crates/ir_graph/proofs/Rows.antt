@@ -15,8 +15,8 @@ use Rattle.plan.specs.Faults.{named}
 use Rattle.plan.specs.Graph.{Edge, graph, popped, hits, opens, following, edges-into, sinks, is-cache}
 use Rattle.plan.specs.Visit.{is-into}
 use Rattle.storage.specs.Stored.{stored-steps, Step-formed}
-use Rattle.claims.proofs.Booleans.{differ, equal}
-use Rattle.claims.proofs.Counts.{false-of, true-of, sum-reverse, times-same, times-other, same-number, only}
+use Rattle.plan.proofs.Booleans.{differ, equal}
+use Rattle.plan.proofs.Counts.{false-of, true-of, sum-reverse, times-same, times-other, same-number, only}
 use Rattle.claims.proofs.Plans.{Plan, cache-named}
 use Rattle.claims.proofs.Reached.{followed-le}
 use Rattle.claims.proofs.Hits.{hits-named}

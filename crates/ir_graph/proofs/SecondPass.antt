@@ -17,8 +17,8 @@ use Rattle.plan.specs.Faults.{named}
 use Rattle.plan.specs.Graph.{Edge, graph, grow, popped, hits, opens, following, edges-into, sinks, is-cache, most-places}
 use Rattle.storage.specs.Stored.{stored-step, stored-steps, Step-formed}
 use Rattle.storage.proofs.Laws.{length-steps}
-use Rattle.claims.proofs.Booleans.{T-eq, equal}
-use Rattle.claims.proofs.Counts.{sum-ones, times-same, times-other, only}
+use Rattle.plan.proofs.Booleans.{T-eq, equal}
+use Rattle.plan.proofs.Counts.{sum-ones, times-same, times-other, only}
 use Rattle.claims.proofs.Plans.{Plan, root-there, input-there, cache-named}
 use Rattle.claims.proofs.Reached.{followed-le, followed-none}
 use Rattle.claims.proofs.Hits.{hits-named}

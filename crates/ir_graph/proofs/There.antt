@@ -12,7 +12,7 @@ use Rattle.plan.specs.Faults.{named}
 use Rattle.plan.specs.Graph.{graph, sinks}
 use Rattle.plan.specs.Visit.{no-edge}
 use Rattle.storage.proofs.Laws.{table-at}
-use Rattle.claims.proofs.Counts.{mem-at, mem-concat, times-of, stands-in, only}
+use Rattle.plan.proofs.Counts.{mem-at, mem-concat, times-of, stands-in, only}
 use Rattle.claims.proofs.Edges.{same-some}
 use Rattle.claims.proofs.StepTable.{has-inputs}
 use Rattle.claims.proofs.Plans.{Plan, root-there, input-there}

@@ -19,7 +19,8 @@ use Rattle.storage.proofs.Changes.{formed-still, input-stored}
 use Rattle.plan.specs.Visit.{with-input}
 use Rattle.plan.proofs.ListLaws.{and-left, and-right}
 use Rattle.claims.proofs.Stays.{reads-kept}
-use Rattle.claims.proofs.StepTable.{same-kind, in-range, has-inputs}
+use Rattle.claims.proofs.StepTable.{has-inputs}
+use Rattle.plan.proofs.KindNumbers.{in-range, same-kind}
 use Rattle.ir_graph.specs.Turns.{cached}
 use Rattle.ir_graph.specs.UpdateCaches.{one-id, first-met, first-lines, update-cache-node, update-lines, update-cache-nodes, Updatable}
 use Rattle.ir_graph.proofs.Bounds.{step-there, cache-there}

@@ -17,10 +17,11 @@ use Rattle.plan.specs.Sheet.{Outcome, refused, done, refuse_when_else_}
 use Rattle.plan.specs.Text.{line, edge-line, exprs-block, steps-block, edges-block, tally-line, printed}
 use Rattle.plan.specs.Visit.{Run}
 use Rattle.plan.proofs.ListLaws.{same→eq}
-use Rattle.claims.specs.Demand1.{refusal-numbers, Finished-call, Refused-call}
-use Rattle.claims.proofs.Booleans.{and-both, T-eq}
+use Rattle.plan.specs.Conditions.{refusal-numbers}
+use Rattle.claims.specs.Demand1.{Finished-call, Refused-call}
+use Rattle.plan.proofs.Booleans.{and-both, T-eq}
 use Rattle.claims.proofs.Demand1.{demand-1, number-range}
-use Rattle.claims.proofs.Outcomes.{same-value}
+use Rattle.plan.proofs.Outcomes.{same-value}
 use Rattle.engine.specs.Call.{call}
 use Rattle.marking.specs.declared.answer.Mark.{Mark}
 use Rattle.marking.specs.Marking.{mark-call, verdict, mark-of, marked, marked-run, mark-answer, Tellable, Marking-kept}

@@ -8,7 +8,7 @@ use Rattle.plan.specs.Sheet.{Outcome, refused, done, refuse_when_else_}
 use Rattle.plan.specs.Finished.{run, finish, too-short}
 use Rattle.plan.specs.Text.{edges-block}
 use Rattle.plan.specs.Visit.{Run}
-use Rattle.claims.specs.Demand1.{refusal-numbers}
+use Rattle.plan.specs.Conditions.{refusal-numbers}
 use Rattle.writing.specs.Refusal.{refusal-line}
 use Rattle.marking.specs.declared.answer.Mark.{Mark}
 

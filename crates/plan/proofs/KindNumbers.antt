@@ -1,19 +1,21 @@
 -- From a number to its kind and back: the identity within each table, both ways.
-use mathlib.Core.Path.{_≡_, refl, _∙_}
+use mathlib.Core.Path.{_≡_, refl, ap, sym, _∙_}
 use Prim.Native.Nat.{ℕ, zero, suc, _+_, _<_}
 use native.Mathlib.Omega.{arith}
 use native.Mathlib.Nat.{not-suc-le-zero}
+use native.Mathlib.Decide.{decLt}
 use mathlib.Core.Bool.{Bool, true, false, _&&_}
 use mathlib.Core.List.{List, [], _∷_}
 use lib.Dec.{T, eqb, eqb→eq}
-use lib.ListN.{length, getD}
+use lib.ListN.{length, getD, List·getD-eq-default}
 use Rattle.plan.specs.declared.aexpr.AExpr.{AExpr}
 use Rattle.plan.specs.declared.ir.IR.{IR}
 use Rattle.plan.specs.declared.distinct.UniqueKeepStrategy.{UniqueKeepStrategy}
 use Rattle.plan.specs.declared.join.JoinType.{JoinType}
 use Rattle.plan.specs.declared.join.MaintainOrderJoin.{MaintainOrderJoin}
 use Rattle.plan.specs.declared.function_ir.FunctionIR.{FunctionIR}
-use Rattle.plan.specs.Kinds.{aexprs, aexpr, aexpr-number, irs, ir, ir-number, keep-strategies, keep-strategy, keep-strategy-number, join-types, join-type, join-type-number, maintain-orders, maintain-order, maintain-order-number, function-irs, function-ir, function-ir-number}
+use Rattle.plan.specs.Sheet.{Step, no-step, step-at}
+use Rattle.plan.specs.Kinds.{aexprs, aexpr, aexpr-number, same-aexpr, irs, ir, ir-number, same-ir, keep-strategies, keep-strategy, keep-strategy-number, join-types, join-type, join-type-number, maintain-orders, maintain-order, maintain-order-number, function-irs, function-ir, function-ir-number}
 
 -- The rule of a table, by a test that computes over the whole of it: the entries have the numbers k, k + 1, .. ------------------
 
@@ -93,62 +95,34 @@ ir-back IR.Cache = refl
 pub keep-strategy-there : (k : ℕ) → k < 4 → keep-strategy-number (keep-strategy k) ≡ k
 keep-strategy-there = by-table keep-strategy-number keep-strategies UniqueKeepStrategy.First tt
 
-pub keep-strategy-back : (x : UniqueKeepStrategy) → keep-strategy (keep-strategy-number x) ≡ x
-keep-strategy-back UniqueKeepStrategy.First = refl
-keep-strategy-back UniqueKeepStrategy.Last = refl
-keep-strategy-back UniqueKeepStrategy.Any = refl
-keep-strategy-back UniqueKeepStrategy.None = refl
-
 pub join-type-there : (k : ℕ) → k < 4 → join-type-number (join-type k) ≡ k
 join-type-there = by-table join-type-number join-types JoinType.Other tt
-
-pub join-type-back : (x : JoinType) → join-type (join-type-number x) ≡ x
-join-type-back JoinType.Other = refl
-join-type-back JoinType.Semi = refl
-join-type-back JoinType.Anti = refl
-join-type-back JoinType.AsOf = refl
 
 pub maintain-order-there : (k : ℕ) → k < 5 → maintain-order-number (maintain-order k) ≡ k
 maintain-order-there = by-table maintain-order-number maintain-orders MaintainOrderJoin.None tt
 
-pub maintain-order-back : (x : MaintainOrderJoin) → maintain-order (maintain-order-number x) ≡ x
-maintain-order-back MaintainOrderJoin.None = refl
-maintain-order-back MaintainOrderJoin.Left = refl
-maintain-order-back MaintainOrderJoin.Right = refl
-maintain-order-back MaintainOrderJoin.LeftRight = refl
-maintain-order-back MaintainOrderJoin.RightLeft = refl
-
 pub function-ir-there : (k : ℕ) → k < 8 → function-ir-number (function-ir k) ≡ k
 function-ir-there = by-table function-ir-number function-irs FunctionIR.RowIndex tt
 
-pub function-ir-back : (x : FunctionIR) → function-ir (function-ir-number x) ≡ x
-function-ir-back FunctionIR.RowIndex = refl
-function-ir-back FunctionIR.FastCount = refl
-function-ir-back FunctionIR.Unnest = refl
-function-ir-back FunctionIR.Rechunk = refl
-function-ir-back FunctionIR.Explode = refl
-function-ir-back FunctionIR.Unpivot = refl
-function-ir-back FunctionIR.Opaque = refl
-function-ir-back FunctionIR.Hint = refl
+-- a kind's number is within the table: past its end stands the first kind
+pub ir-small : (x : IR) → ir-number x < 19
+ir-small x = by (decLt (ir-number x) 19)
+  where
+    by : Dec (ir-number x < 19) → ir-number x < 19
+    by (yes h) = h
+    by (no h) = let e = ap ir-number (sym (ir-back x) ∙ List·getD-eq-default irs IR.Scan {n = ir-number x} (omega arith)) in omega (arith, e)
 
--- a kind's number is within the table
-pub ir-small : (k : IR) → ir-number k < 19
-ir-small IR.Scan = omega arith
-ir-small IR.UnoptimizedDispatch = omega arith
-ir-small IR.Sink = omega arith
-ir-small IR.Select = omega arith
-ir-small IR.HStack = omega arith
-ir-small IR.Sort = omega arith
-ir-small IR.Filter = omega arith
-ir-small IR.GroupBy = omega arith
-ir-small IR.Distinct = omega arith
-ir-small IR.Join = omega arith
-ir-small IR.Gather = omega arith
-ir-small IR.Union = omega arith
-ir-small IR.MergeSorted = omega arith
-ir-small IR.MapFunction = omega arith
-ir-small IR.HConcat = omega arith
-ir-small IR.Slice = omega arith
-ir-small IR.ExtContext = omega arith
-ir-small IR.SimpleProjection = omega arith
-ir-small IR.Cache = omega arith
+-- kinds with one number are one kind
+pub same-kind : (x y : IR) → T (same-ir x y) → x ≡ y
+same-kind x y t = sym (ir-back x) ∙ ap ir (eqb→eq (ir-number x) (ir-number y) t) ∙ ir-back y
+
+pub same-expr-kind : (x y : AExpr) → T (same-aexpr x y) → x ≡ y
+same-expr-kind x y t = sym (aexpr-back x) ∙ ap aexpr (eqb→eq (aexpr-number x) (aexpr-number y) t) ∙ aexpr-back y
+
+-- a step of a kind other than Scan is there
+pub in-range : (ps : List Step) (n : ℕ) {k : ℕ} → ir-number (step-at ps n .kind) ≡ suc k → n < length ps
+in-range ps n {k} e = by (decLt n (length ps))
+  where
+    by : Dec (n < length ps) → n < length ps
+    by (yes h) = h
+    by (no h) = absurd (let z = ap (λ (s : Step). ir-number (s .kind)) (List·getD-eq-default ps no-step {n = n} (omega arith)) in omega (arith, z))

@@ -1,6 +1,15 @@
 pub mod Tables
 pub mod ListLaws
+pub mod Booleans
+pub mod Counts
+pub mod Outcomes
 pub mod KindNumbers
 pub mod Decimals
+pub mod FaultLaws
+pub mod Firsts
+pub mod LineFaults
+pub mod Conditions
+pub mod TurnedBack
+pub mod Checked
 pub mod Computing
 pub mod Cases

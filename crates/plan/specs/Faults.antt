@@ -8,7 +8,16 @@ use Rattle.plan.specs.declared.aexpr.AExpr.{AExpr}
 use Rattle.plan.specs.declared.ir.IR.{IR}
 use Rattle.plan.specs.Kinds.{same-aexpr, same-ir}
 use Rattle.plan.specs.Lists.{if_then_else_, all?, select, concat-map, numbered, among, times, rest}
-use Rattle.plan.specs.Sheet.{Expr, Step, Sheet, Outcome, done, refuse_when_else_, expr-at, step-at}
+use Rattle.plan.specs.Sheet.{Expr, Step, Sheet, Outcome, refused, done, expr-at, step-at}
+
+-- a line that has been read, with its index
+pub data Indexed : Type 0 where
+  expr : ℕ × Expr → Indexed
+  step : ℕ × Step → Indexed
+
+-- the E lines, then the P lines
+unfoldable pub lines : Sheet → List Indexed
+lines sh = map Indexed.expr (numbered 0 (sh .exprs)) ++ map Indexed.step (numbered 0 (sh .steps))
 
 -- 7 --
 
@@ -24,11 +33,9 @@ inputs-earlier sh (n, s) = all? (λ m. ltb m n && not (same-ir (step-at (sh .ste
 unfoldable pub exprs-there : Sheet → ℕ × Step → Bool
 exprs-there sh (n, s) = all? (λ q. ltb q (length (sh .exprs))) (s .exprs ++ s .aggs)
 
-unfoldable pub references-right : Sheet → Bool
-references-right sh =
-    all? children-earlier (numbered 0 (sh .exprs))
-    && all? (inputs-earlier sh) (numbered 0 (sh .steps))
-    && all? (exprs-there sh) (numbered 0 (sh .steps))
+unfoldable pub references-right : Sheet → Indexed → Bool
+references-right sh (Indexed.expr x) = children-earlier x
+references-right sh (Indexed.step x) = inputs-earlier sh x && exprs-there sh x
 
 -- 8 --
 
@@ -44,14 +51,16 @@ named ps = concat-map (λ (s : Step). s .inputs) ps
 abbrev pub use-right : IR → ℕ → Bool
 use-right kind count = same-ir kind IR.Sink || (leb 1 count && (same-ir kind IR.Cache || leb count 1))
 
+unfoldable pub named-right : Sheet → Indexed → Bool
+named-right sh (Indexed.expr (i, e)) = eqb (times i (exprs-named sh)) 1
+named-right sh (Indexed.step (n, s)) = use-right (s .kind) (times n (named (sh .steps)))
+
 unfoldable pub cache-ids : List Step → List ℕ
 cache-ids ps = map (λ (s : Step). s .a) (select (λ (s : Step). same-ir (s .kind) IR.Cache) ps)
 
-unfoldable pub uses-right : Sheet → Bool
-uses-right sh =
-    all? (λ (i, e). eqb (times i (exprs-named sh)) 1) (numbered 0 (sh .exprs))
-    && all? (λ (n, s). use-right (s .kind) (times n (named (sh .steps)))) (numbered 0 (sh .steps))
-    && all? (λ id. eqb (times id (cache-ids (sh .steps))) 1) (cache-ids (sh .steps))
+-- a Cache line has an id of its own
+unfoldable pub id-right : List Step → ℕ × Step → Bool
+id-right ps (n, s) = not (same-ir (s .kind) IR.Cache) || eqb (times (s .a) (cache-ids ps)) 1
 
 -- 9 --
 
@@ -68,15 +77,43 @@ unfoldable pub evaluated : List Expr → List ℕ
 evaluated es =
     concat-map (λ (e : Expr). if same-aexpr (e .kind) AExpr.StructEval then concat-map (tree es) (rest (e .children)) else []) es
 
--- every StructField is one of them
-unfoldable pub fields-right : List Expr → Bool
-fields-right es = all? (λ (i, e). not (same-aexpr (e .kind) AExpr.StructField) || among i (evaluated es)) (numbered 0 es)
+-- a StructField is one of them
+unfoldable pub field-right : List Expr → ℕ × Expr → Bool
+field-right es (i, e) = not (same-aexpr (e .kind) AExpr.StructField) || among i (evaluated es)
 
--- All three --------------------------------------------------------------------------------------------------------------
+-- The passes -------------------------------------------------------------------------------------------------------------
+
+-- each gives every line that it goes over a number, 0 for no fault
+abbrev pub reference-fault : Sheet → Indexed → ℕ
+reference-fault sh l = if references-right sh l then 0 else 7
+
+abbrev pub use-fault : Sheet → Indexed → ℕ
+use-fault sh l = if named-right sh l then 0 else 8
+
+abbrev pub id-fault : Sheet → ℕ × Step → ℕ
+id-fault sh x = if id-right (sh .steps) x then 0 else 8
+
+abbrev pub field-fault : Sheet → ℕ × Expr → ℕ
+field-fault sh x = if field-right (sh .exprs) x then 0 else 9
+
+-- one pass after the other
+unfoldable pub passes : Sheet → List (List ℕ)
+passes sh =
+    map (reference-fault sh) (lines sh)
+    ∷ map (use-fault sh) (lines sh)
+    ∷ map (id-fault sh) (numbered 0 (sh .steps))
+    ∷ map (field-fault sh) (numbered 0 (sh .exprs))
+    ∷ []
+
+-- the first number that is not 0
+unfoldable pub first-fault : List ℕ → ℕ
+first-fault [] = 0
+first-fault (zero ∷ ns) = first-fault ns
+first-fault (suc n ∷ ns) = suc n
+
+abbrev pub refused-by : Sheet → ℕ → Outcome Sheet
+refused-by sh zero = done sh
+refused-by sh (suc n) = refused (suc n)
 
 unfoldable pub checked : Sheet → Outcome Sheet
-checked sh =
-    refuse 7 when not (references-right sh) else
-    refuse 8 when not (uses-right sh) else
-    refuse 9 when not (fields-right (sh .exprs)) else
-    done sh
+checked sh = refused-by sh (first-fault (concat-map (λ ns. ns) (passes sh)))

@@ -11,3 +11,4 @@ pub mod Visit
 pub mod Walks
 pub mod Text
 pub mod Finished
+pub mod Conditions

@@ -15,7 +15,7 @@ use Rattle.plan.specs.declared.aexpr.AExpr.{AExpr}
 use Rattle.plan.specs.Kinds.{same-aexpr}
 use Rattle.plan.specs.Lists.{all?, numbered, among, times, rest}
 use Rattle.plan.specs.Sheet.{Expr, expr-at, no-expr}
-use Rattle.plan.specs.Faults.{children-earlier, evaluated, fields-right}
+use Rattle.plan.specs.Faults.{children-earlier, evaluated, field-right}
 use Rattle.storage.specs.Stored.{stored-expr, stored-exprs}
 use Rattle.storage.proofs.Laws.{length-table, table-at}
 use Rattle.reading.specs.Held.{children-of, Exprs-held}
@@ -166,9 +166,9 @@ module _ (es : List ℕ) (n : ℕ) where
     marks-are : (i : ℕ) → leb 1 (times i (markings es n n)) ≡ among i (evaluated E)
     marks-are i = same-tests i (markings es n n) (evaluated E) (sound n i (omega arith)) (complete i)
 
-    pub fields-are : {r : Bool} → r ≡ all? (field-marked (markings es n n)) (numbered 0 E) → r ≡ fields-right E
-    unfolding fields-right
-    fields-are e = e ∙ all-numbered-same (field-marked (markings es n n)) _ 0 E (λ i h x. ap (λ b. not (same-aexpr (x .kind) AExpr.StructField) || b) (marks-are i))
+    pub fields-are : {r : Bool} → r ≡ all? (field-marked (markings es n n)) (numbered 0 E) → r ≡ all? (field-right E) (numbered 0 E)
+    unfolding field-right
+    fields-are e = e ∙ all-numbered-same (field-marked (markings es n n)) (field-right E) 0 E (λ i h x. ap (λ b. not (same-aexpr (x .kind) AExpr.StructField) || b) (marks-are i))
 
 -- a line's test
 pub field-is : (es c names : List ℕ) (i : ℕ) {r : Bool} → i < 256 → Counted c names → r ≡ (not (eqb (getD es (i * 16) 0) 3) || leb 1 (getD c i 0)) → r ≡ field-marked names (i, stored-expr es i)

@@ -14,12 +14,13 @@ use Rattle.plan.specs.declared.ir.IR.{IR}
 use Rattle.plan.specs.Kinds.{same-ir}
 use Rattle.plan.specs.Lists.{if_then_else_, all?, select, sum, concat-map, numbered, times}
 use Rattle.plan.specs.Sheet.{Expr, Step}
-use Rattle.plan.specs.Faults.{exprs-named, named, cache-ids, uses-right}
+use Rattle.plan.specs.Faults.{exprs-named, named, cache-ids, named-right, id-right}
+use Rattle.plan.proofs.FaultLaws.{over-lines}
 use Rattle.storage.specs.Stored.{stored-expr, stored-step, stored-exprs, stored-steps, table}
 use Rattle.storage.proofs.Laws.{table-more}
 use Rattle.plan.proofs.ListLaws.{sum-append}
 use Rattle.reading.specs.Held.{children-of, count-of, both, sheet}
-use Rattle.reading.specs.Uses.{capped, Counted, all-children, all-both, id-of, used, exprs-once, steps-used, ids-once, once-in, used-in, id-once-in}
+use Rattle.reading.specs.Uses.{capped, Counted, all-children, all-both, id-of, used, exprs-once, steps-used, ids-once, uses-right, once-in, used-in, id-once-in}
 use Rattle.reading.proofs.Scans.{children-are, inputs-are, both-are, step-kind, step-a, step-kind-is}
 
 -- Counts up to 2 -------------------------------------------------------------------------------------------------------------
@@ -184,17 +185,6 @@ other-kind k b e = rw (ne-eqb k 18 e)
 pub cache-kind : (k : ℕ) {a b : Bool} → k ≡ 18 → a ≡ b → a ≡ (not (eqb k 18) || b)
 cache-kind k e f = rw (eq-eqb k 18 e) f
 
--- a test of the ids, line by line
-ids-by-line : (f : ℕ → Bool) (k : ℕ) (l : List Step) → all? f (cache-ids l) ≡ all? (λ (i, s). not (cache? s) || f (s .a)) (numbered k l)
-unfolding cache-ids select all? numbered cache?
-ids-by-line f k [] = refl
-ids-by-line f k (s ∷ l) = by (cache? s) refl (ids-by-line f (suc k) l)
-  where
-    by : (b : Bool) → cache? s ≡ b → all? f (cache-ids l) ≡ all? (λ (i, s). not (cache? s) || f (s .a)) (numbered (suc k) l)
-        → all? f (cache-ids (s ∷ l)) ≡ all? (λ (i, s). not (cache? s) || f (s .a)) (numbered k (s ∷ l))
-    by true e h = rw (cache-ids, select, e) (ap (λ b. f (s .a) && b) h)
-    by false e h = rw (cache-ids, select, e) h
-
 module _ (es ps : List ℕ) (n m : ℕ) where
   pub exprs-counted : {r : Bool} → r ≡ all? (once-in (all-children (stored-exprs es n) ++ all-both (stored-steps ps m))) (numbered 0 (stored-exprs es n)) → r ≡ exprs-once (sheet es n ps m)
   unfolding exprs-once exprs-named all-children all-both
@@ -205,12 +195,12 @@ module _ (es ps : List ℕ) (n m : ℕ) where
   steps-counted e = e
 
   pub ids-counted : {r : Bool} → r ≡ all? (id-once-in (cache-ids (stored-steps ps m))) (numbered 0 (stored-steps ps m)) → r ≡ ids-once (stored-steps ps m)
-  unfolding ids-once cache?
-  ids-counted e = e ∙ sym (ids-by-line (λ id. eqb (times id (cache-ids (stored-steps ps m))) 1) 0 (stored-steps ps m))
+  unfolding ids-once id-right
+  ids-counted e = e
 
   uses-are : uses-right (sheet es n ps m) ≡ (exprs-once (sheet es n ps m) && steps-used (stored-steps ps m) && ids-once (stored-steps ps m))
-  unfolding uses-right exprs-once steps-used ids-once
-  uses-are = refl
+  unfolding uses-right exprs-once steps-used ids-once named-right
+  uses-are = ap (λ b. b && ids-once (stored-steps ps m)) (over-lines (named-right (sheet es n ps m)) (sheet es n ps m))
 
   pub not-exprs : {a : Bool} → a ≡ exprs-once (sheet es n ps m) → a ≡ false → false ≡ uses-right (sheet es n ps m)
   not-exprs e f = sym (uses-are ∙ rw (← e, f))

@@ -1,6 +1,6 @@
 -- The plan of a sheet.
 use mathlib.Core.Path.{_≡_, refl, sym, ap, _∙_, subst}
-use mathlib.Core.Bool.{Bool, true, false}
+use mathlib.Core.Bool.{Bool, true, false, _&&_, not}
 use mathlib.Core.List.{List}
 use Prim.Native.Nat.{ℕ, _<_, _≤_}
 use native.Mathlib.Omega.{arith}
@@ -8,7 +8,8 @@ use lib.ListN.{length}
 use borrow.Author.Tests.{lt-ltb, le-ltb}
 use Rattle.plan.specs.Lists.{all?, numbered}
 use Rattle.plan.specs.Sheet.{Sheet, Outcome, refused, done, _then_, refuse_when_else_, read, read-lines, parts, no-lines, no-plan}
-use Rattle.plan.specs.Faults.{checked, references-right, uses-right, fields-right, children-earlier}
+use Rattle.plan.specs.Faults.{lines, references-right, named-right, id-right, field-right, checked}
+use Rattle.plan.proofs.Checked.{checked-is}
 use Rattle.storage.specs.Stored.{stored-expr, stored-step, stored-exprs, stored-steps, Steps-held}
 use Rattle.storage.proofs.Laws.{length-table}
 use Rattle.reading.specs.Held.{Exprs-held, sheet}
@@ -18,7 +19,8 @@ use Rattle.reading.specs.declared.lines.Tally.{Tally}
 use Rattle.reading.specs.declared.lines.Lines.{Lines}
 use Rattle.reading.specs.declared.Plan.{Plan}
 use Rattle.reading.specs.declared.Plan.the-variants.{Taken, Refused}
-use Rattle.reading.proofs.Checks.{first-holds, no-steps, some-steps}
+use Rattle.reading.specs.Uses.{uses-right}
+use Rattle.reading.proofs.Checks.{no-steps, some-steps}
 
 -- What comes after the last line ---------------------------------------------------------------------------------------------
 
@@ -35,27 +37,39 @@ module _ (es ps : List ℕ) (n m : ℕ) where
     unfolding checked-plan refuse_when_else_ _then_
     on = rw (checked-plan, some-steps ps m h)
 
-    pub bad-reference : {a : Bool} → a ≡ references-right sh → a ≡ false → checked-plan sh ≡ refused 7
-    unfolding checked refuse_when_else_
-    bad-reference e f = on ∙ rw (checked, ← e, f)
+    abbrev fields : Outcome Sheet
+    fields = refuse 9 when not (all? (field-right (stored-exprs es n)) (numbered 0 (stored-exprs es n))) else done sh
 
-    module _ {a : Bool} (e : a ≡ references-right sh) (f : a ≡ true) where
+    -- the passes, both that give 8 together
+    passes : checked-plan sh
+        ≡ (refuse 7 when not (all? (references-right sh) (lines sh)) else refuse 8 when not (uses-right sh) else fields)
+    unfolding uses-right refuse_when_else_
+    passes =
+        on ∙ checked-is sh
+        ∙ by (all? (references-right sh) (lines sh)) (all? (named-right sh) (lines sh)) (all? (id-right (stored-steps ps m)) (numbered 0 (stored-steps ps m)))
+      where
+        by : (a b c : Bool) → (refuse 7 when not a else refuse 8 when not b else refuse 8 when not c else fields) ≡ (refuse 7 when not a else refuse 8 when not (b && c) else fields)
+        by false _ _ = refl
+        by true false _ = refl
+        by true true _ = refl
+
+    pub bad-reference : {a : Bool} → a ≡ all? (references-right sh) (lines sh) → a ≡ false → checked-plan sh ≡ refused 7
+    unfolding refuse_when_else_
+    bad-reference e f = passes ∙ rw (← e, f)
+
+    module _ {a : Bool} (e : a ≡ all? (references-right sh) (lines sh)) (f : a ≡ true) where
       pub bad-use : {b : Bool} → b ≡ uses-right sh → b ≡ false → checked-plan sh ≡ refused 8
-      unfolding checked refuse_when_else_
-      bad-use g k = on ∙ rw (checked, ← e, f, ← g, k)
-
-      pub children-early : all? children-earlier (numbered 0 (stored-exprs es n)) ≡ true
-      unfolding references-right
-      children-early = first-holds (all? children-earlier (numbered 0 (stored-exprs es n))) _ _ (sym e ∙ f)
+      unfolding refuse_when_else_
+      bad-use g k = passes ∙ rw (← e, f, ← g, k)
 
       module _ {b : Bool} (g : b ≡ uses-right sh) (k : b ≡ true) where
-        pub bad-field : {c : Bool} → c ≡ fields-right (stored-exprs es n) → c ≡ false → checked-plan sh ≡ refused 9
-        unfolding checked refuse_when_else_
-        bad-field i j = on ∙ rw (checked, ← e, f, ← g, k, ← i, j)
+        pub bad-field : {c : Bool} → c ≡ all? (field-right (stored-exprs es n)) (numbered 0 (stored-exprs es n)) → c ≡ false → checked-plan sh ≡ refused 9
+        unfolding refuse_when_else_
+        bad-field i j = passes ∙ rw (← e, f, ← g, k, ← i, j)
 
-        pub good : {c : Bool} → c ≡ fields-right (stored-exprs es n) → c ≡ true → checked-plan sh ≡ done sh
-        unfolding checked refuse_when_else_
-        good i j = on ∙ rw (checked, ← e, f, ← g, k, ← i, j)
+        pub good : {c : Bool} → c ≡ all? (field-right (stored-exprs es n)) (numbered 0 (stored-exprs es n)) → c ≡ true → checked-plan sh ≡ done sh
+        unfolding refuse_when_else_
+        good i j = passes ∙ rw (← e, f, ← g, k, ← i, j)
 
   exprs-length : length (stored-exprs es n) ≡ n
   unfolding stored-exprs

@@ -10,11 +10,13 @@ use borrow.Author.Tests.{ltb-true, lt-ltb, le-ltb, eq-eqb, ne-eqb}
 use Rattle.plan.specs.declared.ir.IR.{IR}
 use Rattle.plan.specs.Kinds.{same-ir}
 use Rattle.plan.specs.Lists.{all?, numbered}
-use Rattle.plan.specs.Sheet.{Expr, Step, step-at, no-step}
-use Rattle.plan.specs.Faults.{children-earlier, inputs-earlier, exprs-there, references-right}
+use Rattle.plan.specs.Sheet.{Expr, Step, Sheet, step-at, no-step}
+use Rattle.plan.specs.Faults.{lines, children-earlier, inputs-earlier, exprs-there, references-right}
+use Rattle.plan.proofs.FaultLaws.{over-lines, all-and, and-assoc}
 use Rattle.storage.specs.Stored.{stored-expr, stored-step, stored-exprs, stored-steps}
 use Rattle.storage.proofs.Laws.{length-table, table-at}
 use Rattle.reading.specs.Held.{children-of, count-of, both, before-no-sink, sheet}
+use Rattle.reading.proofs.Checks.{first-holds}
 use Rattle.reading.proofs.Scans.{children-are, inputs-are, both-are, step-kind, step-kind-is, lines-from, from-first}
 
 pub all-same : {A : Type 0} (f g : A → Bool) → ((x : A) → f x ≡ g x) → (l : List A) → all? f l ≡ all? g l
@@ -83,20 +85,32 @@ module _ (es ps : List ℕ) (n m : ℕ) where
   unfolding exprs-there
   there x = ap (λ (k : ℕ). all? (λ q. ltb q k) (both (x .1))) (sym length-exprs)
 
-  pub right-is : {a b c : Bool} → a ≡ all? children-earlier (numbered 0 (stored-exprs es n)) → b ≡ all? (inputs-earlier (sheet es n ps m)) (numbered 0 (stored-steps ps m))
-      → c ≡ all? (λ (i, s). all? (λ q. ltb q n) (both s)) (numbered 0 (stored-steps ps m)) → (a && b && c) ≡ references-right (sheet es n ps m)
-  unfolding references-right
-  right-is e f g = rw (e, f, g) (ap (λ b. all? children-earlier (numbered 0 (stored-exprs es n)) && all? (inputs-earlier (sheet es n ps m)) (numbered 0 (stored-steps ps m)) && b) (all-same _ _ there (numbered 0 (stored-steps ps m))))
+  abbrev sh : Sheet
+  sh = sheet es n ps m
 
-  pub not-children : {a : Bool} → a ≡ all? children-earlier (numbered 0 (stored-exprs es n)) → a ≡ false → false ≡ references-right (sheet es n ps m)
+  -- the three loops together
+  references-are : all? (references-right sh) (lines sh)
+      ≡ (all? children-earlier (numbered 0 (stored-exprs es n)) && all? (inputs-earlier sh) (numbered 0 (stored-steps ps m))
+      && all? (λ (i, s). all? (λ q. ltb q n) (both s)) (numbered 0 (stored-steps ps m)))
   unfolding references-right
-  not-children e f = rw (← e, f)
+  references-are =
+      over-lines (references-right sh) sh
+      ∙ ap (λ b. all? children-earlier (numbered 0 (stored-exprs es n)) && b) (all-and (inputs-earlier sh) (exprs-there sh) (numbered 0 (stored-steps ps m)))
+      ∙ sym (and-assoc (all? children-earlier (numbered 0 (stored-exprs es n))) _ _)
+      ∙ ap (λ b. all? children-earlier (numbered 0 (stored-exprs es n)) && all? (inputs-earlier sh) (numbered 0 (stored-steps ps m)) && b)
+      (sym (all-same _ _ there (numbered 0 (stored-steps ps m))))
 
-  pub not-inputs : {a b : Bool} → a ≡ all? children-earlier (numbered 0 (stored-exprs es n)) → b ≡ all? (inputs-earlier (sheet es n ps m)) (numbered 0 (stored-steps ps m)) → a ≡ true → b ≡ false
-      → false ≡ references-right (sheet es n ps m)
-  unfolding references-right
-  not-inputs e f g h = rw (← e, ← f, g, h)
+  module _ {a : Bool} (e : a ≡ all? children-earlier (numbered 0 (stored-exprs es n))) where
+    pub not-children : a ≡ false → false ≡ all? (references-right sh) (lines sh)
+    not-children f = sym (references-are ∙ rw (← e, f))
 
-  pub all-three : {a b c : Bool} → a ≡ all? children-earlier (numbered 0 (stored-exprs es n)) → b ≡ all? (inputs-earlier (sheet es n ps m)) (numbered 0 (stored-steps ps m))
-      → c ≡ all? (λ (i, s). all? (λ q. ltb q n) (both s)) (numbered 0 (stored-steps ps m)) → a ≡ true → b ≡ true → c ≡ references-right (sheet es n ps m)
-  all-three {c = c} e f g h k = sym (rw (h, k)) ∙ right-is e f g
+    module _ {b : Bool} (g : b ≡ all? (inputs-earlier sh) (numbered 0 (stored-steps ps m))) where
+      pub not-inputs : a ≡ true → b ≡ false → false ≡ all? (references-right sh) (lines sh)
+      not-inputs f h = sym (references-are ∙ rw (← e, ← g, f, h))
+
+      pub all-three : {c : Bool} → c ≡ all? (λ (i, s). all? (λ q. ltb q n) (both s)) (numbered 0 (stored-steps ps m)) → a ≡ true → b ≡ true
+          → c ≡ all? (references-right sh) (lines sh)
+      all-three i f h = sym (references-are ∙ rw (← e, ← g, ← i, f, h))
+
+  pub children-first : all? (references-right sh) (lines sh) ≡ true → all? children-earlier (numbered 0 (stored-exprs es n)) ≡ true
+  children-first e = first-holds (all? children-earlier (numbered 0 (stored-exprs es n))) _ _ (sym references-are ∙ e)

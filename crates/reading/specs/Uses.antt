@@ -9,7 +9,7 @@ use Rattle.plan.specs.declared.ir.IR.{IR}
 use Rattle.plan.specs.Kinds.{same-ir}
 use Rattle.plan.specs.Lists.{if_then_else_, all?, concat-map, numbered, times}
 use Rattle.plan.specs.Sheet.{Expr, Step, Sheet}
-use Rattle.plan.specs.Faults.{exprs-named, named, use-right, cache-ids}
+use Rattle.plan.specs.Faults.{lines, exprs-named, named, use-right, named-right, id-right}
 
 unfoldable pub capped : ℕ → ℕ
 capped zero = 0
@@ -30,7 +30,11 @@ all-both ss = concat-map (λ (s : Step). s .exprs ++ s .aggs) ss
 abbrev pub id-of : ℕ → ℕ → List ℕ
 id-of kind a = if eqb kind 18 then a ∷ [] else []
 
--- The three tests of uses-right ------------------------------------------------------------------------------------------
+-- The tests behind 8 -------------------------------------------------------------------------------------------------------
+
+-- both passes that give it
+unfoldable pub uses-right : Sheet → Bool
+uses-right sh = all? (named-right sh) (lines sh) && all? (id-right (sh .steps)) (numbered 0 (sh .steps))
 
 abbrev pub used : ℕ → ℕ → Bool
 used kind count = eqb kind 2 || (leb 1 count && (eqb kind 18 || leb count 1))
@@ -42,7 +46,7 @@ unfoldable pub steps-used : List Step → Bool
 steps-used ss = all? (λ (n, s). use-right (s .kind) (times n (named ss))) (numbered 0 ss)
 
 unfoldable pub ids-once : List Step → Bool
-ids-once ss = all? (λ id. eqb (times id (cache-ids ss)) 1) (cache-ids ss)
+ids-once ss = all? (id-right ss) (numbered 0 ss)
 
 -- the tests of one line, for any names
 abbrev pub once-in : List ℕ → ℕ × Expr → Bool

@@ -6,7 +6,7 @@ ghost use lib.Dec.{eqb, leb};
 ghost use mathlib.Core.List.{List, [], _++_};
 ghost use Prim.Native.Nat.{ℕ, _≤_, _<_};
 ghost use Rattle.plan.specs.Lists.{all?, numbered};
-ghost use Rattle.plan.specs.Faults.{children-earlier, fields-right};
+ghost use Rattle.plan.specs.Faults.{children-earlier, field-right};
 ghost use Rattle.storage.specs.Stored.{stored-exprs};
 ghost use Rattle.reading.specs.Held.{children-of, Exprs-held};
 ghost use Rattle.reading.specs.Uses.{Counted};
@@ -69,8 +69,8 @@ fn fields_marked(marks: &[u8; 256], exprs: &[u8; 2048], n: usize) -> bool
 }
 
 pub fn fields_right(exprs: &[u8; 2048], n: usize) -> bool
-    requires { ⌜ Exprs-held (now exprs) n ⌝ }
-    ensures { λ r. ⌜ (all? children-earlier (numbered 0 (stored-exprs (now (exprs .entry)) n)) ≡ true → r ≡ fields-right (stored-exprs (now (exprs .entry)) n)) ⌝ }
+    requires { ⌜ Exprs-held (now exprs) n × (all? children-earlier (numbered 0 (stored-exprs (now exprs) n)) ≡ true) ⌝ }
+    ensures { λ r. ⌜ (let es = stored-exprs (now (exprs .entry)) n in r ≡ all? (field-right es) (numbered 0 es)) ⌝ }
 {
     let mut marks = [0u8; 256];
     mark_lines(&mut marks, exprs, n);

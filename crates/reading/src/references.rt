@@ -6,7 +6,7 @@ ghost use lib.Dec.{ltb};
 ghost use lib.ListN.{length, take, drop};
 ghost use Rattle.plan.specs.Lists.{all?, numbered};
 ghost use Rattle.plan.specs.Sheet.{Expr};
-ghost use Rattle.plan.specs.Faults.{children-earlier, inputs-earlier, references-right};
+ghost use Rattle.plan.specs.Faults.{lines, children-earlier, inputs-earlier, references-right};
 ghost use Rattle.storage.specs.Stored.{stored-expr, stored-step, stored-exprs, stored-steps, Steps-held};
 ghost use Rattle.reading.specs.Held.{children-of, Exprs-held, Step-held, sheet, both, before-no-sink};
 
@@ -122,7 +122,7 @@ pub fn all_exprs_there(steps: &[u8; 1024], n: usize, count: usize) -> bool
 
 pub fn references_right(exprs: &[u8; 2048], count: usize, steps: &[u8; 1024], n: usize) -> bool
     requires { ⌜ Exprs-held (now exprs) count × Steps-held (now steps) n ⌝ }
-    ensures { λ r. ⌜ r ≡ references-right (sheet (now (exprs .entry)) count (now (steps .entry)) n) ⌝ }
+    ensures { λ r. ⌜ (let sh = sheet (now (exprs .entry)) count (now (steps .entry)) n in r ≡ all? (references-right sh) (lines sh)) ⌝ }
 {
     if !all_children_earlier(exprs, count) {
         return false;

@@ -6,10 +6,10 @@ ghost use Prim.Native.Nat.{ℕ, _+_, _*_, _≤_, _<_};
 ghost use lib.Dec.{eqb};
 ghost use lib.ListN.{length, take, drop};
 ghost use Rattle.plan.specs.Lists.{all?, numbered, times};
-ghost use Rattle.plan.specs.Faults.{cache-ids, named, uses-right};
+ghost use Rattle.plan.specs.Faults.{cache-ids, named};
 ghost use Rattle.storage.specs.Stored.{stored-exprs, stored-steps, Steps-held};
 ghost use Rattle.reading.specs.Held.{Exprs-held, sheet};
-ghost use Rattle.reading.specs.Uses.{Counted, all-children, all-both, exprs-once, steps-used, ids-once, used, id-of, once-in, used-in, id-once-in};
+ghost use Rattle.reading.specs.Uses.{Counted, all-children, all-both, exprs-once, steps-used, ids-once, uses-right, used, id-of, once-in, used-in, id-once-in};
 
 fn wide(x: u8) -> usize
     ensures { λ r. ⌜ (r ≡ x) × (r < 256) ⌝ }

@@ -17,7 +17,7 @@ use Rattle.plan.specs.Visit.{imploded, with-implodes, with-aggs, options-of, al
 use Rattle.plan.specs.declared.rules.Around.{Around}
 use Rattle.plan.specs.Visit as Visit
 use Rattle.storage.proofs.Laws.{length-arena}
-use Rattle.claims.proofs.Counts.{mem-at}
+use Rattle.plan.proofs.Counts.{mem-at}
 use Rattle.tally.specs.declared.Tally.{Tally}
 use Rattle.expr.specs.Contract.{looked-of}
 use Rattle.expr.specs.Projected.{Started, ListAsks, ListGives}

@@ -31,7 +31,7 @@ use Rattle.simplify_ordering.specs.Run.{run-of, Run-held, refusal-number
 use Rattle.node_rules.proofs.StepLaws.{its-n1}
 use Rattle.node_rules.proofs.UnlinkLaws.{first-input}
 use Rattle.claims.proofs.Stays.{goes-sort}
-use Rattle.claims.proofs.Counts.{true-of}
+use Rattle.plan.proofs.Counts.{true-of}
 use Rattle.claims.proofs.VisitsKept.{looks-visits}
 use Rattle.simplify_ordering.proofs.ImplodesLaws.{longer-start}
 use Rattle.claims.specs.Visitable.{Visitable}

@@ -1,6 +1,8 @@
 use native.Mathlib.Omega.{arith}
 use borrow.Author.Tests.{not-true, not-false}
-use Rattle.reading.proofs.Plans.{refuses, no-step, bad-reference, bad-use, children-early, bad-field, good, taken}
+use mathlib.Core.Path.{sym, _∙_}
+use Rattle.reading.proofs.Plans.{refuses, no-step, bad-reference, bad-use, bad-field, good, taken}
+use Rattle.reading.proofs.Refers.{children-first}
 use borrow.Author.Needs.{needs}
 use Rattle.reading.proofs.check_plan.Statement.{statement}
 use Rattle.reading.proofs.check_plan.Tie as tie
@@ -21,13 +23,14 @@ returns-3 : tie.Need-returns-3
 returns-3 c = (refuses _ _ _ 8 (bad-use (c .before .before .before .before .before .args .exprs .now) (c .before .before .before .before .before .args .steps .now) (c .before .before .before .before .before .args .count) (c .before .before .before .before .before .args .n) (c .before .before .before .before .if1 .left) (c .before .before .before .references-right .ensures) (not-false _ (c .before .before .if2 .left)) (c .before .uses-right .ensures) (not-true _ (c .if3 .taken))), tt)
 
 fields-right-requires : tie.Need-fields-right-requires
-fields-right-requires c κs = search needs
+fields-right-requires c κs =
+    (search needs, children-first (c .before .before .before .before .before .args .exprs .now) (c .before .before .before .before .before .args .steps .now) (c .before .before .before .before .before .args .count) (c .before .before .before .before .before .args .n) (sym (c .before .before .before .references-right .ensures) ∙ not-false _ (c .before .before .if2 .left)))
 
 returns-4 : tie.Need-returns-4
-returns-4 c = (refuses _ _ _ 9 (bad-field (c .before .before .before .before .before .before .before .args .exprs .now) (c .before .before .before .before .before .before .before .args .steps .now) (c .before .before .before .before .before .before .before .args .count) (c .before .before .before .before .before .before .before .args .n) (c .before .before .before .before .before .before .if1 .left) (c .before .before .before .before .before .references-right .ensures) (not-false _ (c .before .before .before .before .if2 .left)) (c .before .before .before .uses-right .ensures) (not-false _ (c .before .before .if3 .left)) (c .before .fields-right .ensures (children-early (c .before .before .before .before .before .before .before .args .exprs .now) (c .before .before .before .before .before .before .before .args .steps .now) (c .before .before .before .before .before .before .before .args .count) (c .before .before .before .before .before .before .before .args .n) (c .before .before .before .before .before .before .if1 .left) (c .before .before .before .before .before .references-right .ensures) (not-false _ (c .before .before .before .before .if2 .left)))) (not-true _ (c .if4 .taken))), tt)
+returns-4 c = (refuses _ _ _ 9 (bad-field (c .before .before .before .before .before .before .before .args .exprs .now) (c .before .before .before .before .before .before .before .args .steps .now) (c .before .before .before .before .before .before .before .args .count) (c .before .before .before .before .before .before .before .args .n) (c .before .before .before .before .before .before .if1 .left) (c .before .before .before .before .before .references-right .ensures) (not-false _ (c .before .before .before .before .if2 .left)) (c .before .before .before .uses-right .ensures) (not-false _ (c .before .before .if3 .left)) (c .before .fields-right .ensures) (not-true _ (c .if4 .taken))), tt)
 
 returns-5 : tie.Need-returns-5
-returns-5 c = (taken (c .before .before .before .before .before .before .before .args .exprs .now) (c .before .before .before .before .before .before .before .args .steps .now) (c .before .before .before .before .before .before .before .args .count) (c .before .before .before .before .before .before .before .args .n) _ (good (c .before .before .before .before .before .before .before .args .exprs .now) (c .before .before .before .before .before .before .before .args .steps .now) (c .before .before .before .before .before .before .before .args .count) (c .before .before .before .before .before .before .before .args .n) (c .before .before .before .before .before .before .if1 .left) (c .before .before .before .before .before .references-right .ensures) (not-false _ (c .before .before .before .before .if2 .left)) (c .before .before .before .uses-right .ensures) (not-false _ (c .before .before .if3 .left)) (c .before .fields-right .ensures (children-early (c .before .before .before .before .before .before .before .args .exprs .now) (c .before .before .before .before .before .before .before .args .steps .now) (c .before .before .before .before .before .before .before .args .count) (c .before .before .before .before .before .before .before .args .n) (c .before .before .before .before .before .before .if1 .left) (c .before .before .before .before .before .references-right .ensures) (not-false _ (c .before .before .before .before .if2 .left)))) (not-false _ (c .if4 .left))), c .before .before .before .before .before .before .before .pre)
+returns-5 c = (taken (c .before .before .before .before .before .before .before .args .exprs .now) (c .before .before .before .before .before .before .before .args .steps .now) (c .before .before .before .before .before .before .before .args .count) (c .before .before .before .before .before .before .before .args .n) _ (good (c .before .before .before .before .before .before .before .args .exprs .now) (c .before .before .before .before .before .before .before .args .steps .now) (c .before .before .before .before .before .before .before .args .count) (c .before .before .before .before .before .before .before .args .n) (c .before .before .before .before .before .before .if1 .left) (c .before .before .before .before .before .references-right .ensures) (not-false _ (c .before .before .before .before .if2 .left)) (c .before .before .before .uses-right .ensures) (not-false _ (c .before .before .if3 .left)) (c .before .fields-right .ensures) (not-false _ (c .if4 .left))), c .before .before .before .before .before .before .before .pre)
 
 pub check-plan-spec : {M : Type 1} → statement M
 check-plan-spec =

@@ -3,7 +3,7 @@ use denote.Ref.{now}
 use native.Mathlib.Omega.{arith}
 use borrow.Author.Tests.{not-true, not-false}
 use borrow.Author.Needs.{needs}
-use Rattle.claims.proofs.Counts.{T-of}
+use Rattle.plan.proofs.Counts.{T-of}
 use Rattle.ir_graph.specs.Turns.{cached}
 use Rattle.ir_graph.proofs.Pushing.{pushed-none}
 use Rattle.ir_graph.proofs.Turning.{other-follows, other-used, cache-used, last-follows, more-follow}

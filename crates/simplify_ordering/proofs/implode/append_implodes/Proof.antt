@@ -13,7 +13,7 @@ use Rattle.simplify_ordering.specs.Arena.{Arena-held}
 use Rattle.node_rules.specs.Held.{with-agg}
 use Rattle.simplify_ordering.proofs.ImplodesLaws.{Imploding, imploding-none, imploding-more, all-done, same-length, entry-is, room-for-one}
 use Rattle.node_rules.proofs.StepLaws.{its-n3, list-length, list-at}
-use Rattle.claims.proofs.Counts.{mem-at}
+use Rattle.plan.proofs.Counts.{mem-at}
 use Rattle.simplify_ordering.proofs.implode.append_implodes.Statement.{statement}
 use Rattle.simplify_ordering.proofs.implode.append_implodes.Tie as tie
 

@@ -4,13 +4,13 @@ use mathlib.Core.Logic.{_⊎_, inl, inr, _≢_}
 use Prim.Native.Nat.{ℕ, zero, suc, _+_, _≤_, _<_}
 use native.Mathlib.Omega.{arith}
 use native.Mathlib.Nat.{add-le-add, not-suc-le-zero}
-use mathlib.Core.Bool.{Bool, true, false}
-use mathlib.Core.List.{List, [], _∷_, map, reverse, reverse-cons, List·Memᴰ, List·Memᴰ·head, List·Memᴰ·tail, List·Memᴰ·not-nil, List·Memᴰ·cases-cons, List·Memᴰ·append-cases}
+use mathlib.Core.Bool.{Bool, true, false, _||_}
+use mathlib.Core.List.{List, [], _∷_, map, reverse, reverse-cons, List·Memᴰ, List·Memᴰ·head, List·Memᴰ·tail, List·Memᴰ·not-nil, List·Memᴰ·cases-cons, List·Memᴰ·append-cases, Memᴰ·append-left, Memᴰ·append-right}
 use lib.Dec.{T, eqb, eqb→eq, eqb-refl}
 use lib.ListN.{length, getD}
-use Rattle.plan.specs.Lists.{if_then_else_, select, sum, concat-map, numbered, times}
+use Rattle.plan.specs.Lists.{if_then_else_, any?, select, sum, concat-map, numbered, among, times}
 use Rattle.plan.proofs.ListLaws.{sum-append}
-use Rattle.claims.proofs.Booleans.{differ}
+use Rattle.plan.proofs.Booleans.{differ}
 
 -- Tests as equations --------------------------------------------------------------------------------------------------------
 
@@ -53,6 +53,15 @@ module _ {A B : Type 0} where
       elim (List·Memᴰ·append-cases (f x) m) [
         | inl m′ ↦ (0, omega arith, m′)
         | inr m′ ↦ let (i, h, n) = mem-concat f l d b m′ in (suc i, omega arith, n)
+      ]
+
+  pub in-concat : (f : A → List B) (l : List A) (a : A) (b : B) → List·Memᴰ a l → List·Memᴰ b (f a) → List·Memᴰ b (concat-map f l)
+  unfolding concat-map
+  in-concat f [] a b m k = absurd (List·Memᴰ·not-nil m)
+  in-concat f (x ∷ l) a b m k =
+      elim (List·Memᴰ·cases-cons m) [
+        | inl e ↦ Memᴰ·append-left (concat-map f l) (subst (λ (y : A). List·Memᴰ b (f y)) e k)
+        | inr m′ ↦ Memᴰ·append-right (f x) (in-concat f l a b m′ k)
       ]
 
 -- the entries of a numbered list
@@ -137,6 +146,34 @@ module _ {A : Type 0} (f : A → Bool) where
   counted-twice (x ∷ l) d (suc i) zero h k t u = absurd (omega arith)
   counted-twice (x ∷ l) d (suc i) (suc j) h k t u = omega (arith, counted-twice l d i j (omega arith) (omega arith) t u)
 
+  -- a place that is counted, where one is
+  pub counted-at : (l : List A) (d : A) → 1 ≤ count f l → (i : ℕ) × (i < length l) × T (f (getD l i d))
+  unfolding sum
+  counted-at [] d h = absurd (not-suc-le-zero h)
+  counted-at (x ∷ l) d h = by (f x) refl h (λ k. counted-at l d k)
+    where
+      by : (b : Bool) → f x ≡ b → 1 ≤ (if b then 1 else 0) + count f l → (1 ≤ count f l → (i : ℕ) × (i < length l) × T (f (getD l i d)))
+          → (i : ℕ) × (i < length (x ∷ l)) × T (f (getD (x ∷ l) i d))
+      by true e h rec = (0, omega arith, T-of (f x) e)
+      by false e h rec = let (i, k, t) = rec (omega arith) in (suc i, omega arith, t)
+
+  -- and another than n, where two are
+  pub counted-beside : (l : List A) (d : A) (n : ℕ) → 2 ≤ count f l → (i : ℕ) × (i < length l) × (i ≢ n) × T (f (getD l i d))
+  unfolding sum
+  counted-beside [] d n h = absurd (not-suc-le-zero h)
+  counted-beside (x ∷ l) d zero h = by (f x) h
+    where
+      by : (b : Bool) → 2 ≤ (if b then 1 else 0) + count f l → (i : ℕ) × (i < length (x ∷ l)) × (i ≢ 0) × T (f (getD (x ∷ l) i d))
+      by true h = let (i, k, t) = counted-at l d (omega arith) in (suc i, omega arith, (λ e. omega (arith, e)), t)
+      by false h = let (i, k, t) = counted-at l d (omega arith) in (suc i, omega arith, (λ e. omega (arith, e)), t)
+  counted-beside (x ∷ l) d (suc n) h = by (f x) refl h (λ k. counted-beside l d n k)
+    where
+      by : (b : Bool) → f x ≡ b → 2 ≤ (if b then 1 else 0) + count f l
+          → (2 ≤ count f l → (i : ℕ) × (i < length l) × (i ≢ n) × T (f (getD l i d)))
+          → (i : ℕ) × (i < length (x ∷ l)) × (i ≢ suc n) × T (f (getD (x ∷ l) i d))
+      by true e h rec = (0, omega arith, (λ e. omega (arith, e)), T-of (f x) e)
+      by false e h rec = let (i, k, g, t) = rec (omega arith) in (suc i, omega arith, (λ e. g (omega (arith, e))), t)
+
   -- where at most one is counted, two of them are the same
   pub only-one : (l : List A) → count f l ≤ 1 → (a b : A) → List·Memᴰ a l → T (f a) → List·Memᴰ b l → T (f b) → a ≡ b
   unfolding sum
@@ -204,6 +241,24 @@ times-of n l m = counted-in (eqb n) l n m (eqb-refl n)
 
 pub stands-in : (n : ℕ) (l : List ℕ) → 1 ≤ times n l → List·Memᴰ n l
 stands-in n l h = let (x, m, e) = some-counted (eqb n) l h in subst (λ y. List·Memᴰ y l) (sym (eqb→eq n x e)) m
+
+pub among-times : (n : ℕ) (l : List ℕ) → T (among n l) → 1 ≤ times n l
+unfolding any? sum
+among-times n [] t = absurd t
+among-times n (x ∷ l) t = by (eqb n x) t (among-times n l)
+  where
+    by : (b : Bool) → T (b || among n l) → (T (among n l) → 1 ≤ times n l) → 1 ≤ (if b then 1 else 0) + times n l
+    by true t rec = omega arith
+    by false t rec = omega (arith, rec t)
+
+pub times-among : (n : ℕ) (l : List ℕ) → 1 ≤ times n l → T (among n l)
+unfolding any? sum
+times-among n [] h = absurd (not-suc-le-zero h)
+times-among n (x ∷ l) h = by (eqb n x) h (times-among n l)
+  where
+    by : (b : Bool) → 1 ≤ (if b then 1 else 0) + times n l → (1 ≤ times n l → T (among n l)) → T (b || among n l)
+    by true h rec = tt
+    by false h rec = rec (omega arith)
 
 pub mem-reverse : (n : ℕ) (l : List ℕ) → List·Memᴰ n (reverse l) → List·Memᴰ n l
 mem-reverse n l m = stands-in n l (omega (arith, times-of n (reverse l) m, sum-reverse (only n) l))

@@ -7,17 +7,17 @@ use mathlib.Core.Bool.{Bool, true, false, _&&_, not}
 use mathlib.Core.Option.{Option, none, some}
 use mathlib.Core.List.{List, [], _∷_, _++_, List·Memᴰ, List·Memᴰ·head, List·Memᴰ·tail, List·Memᴰ·not-nil, List·Memᴰ·cases-cons}
 use lib.Dec.{T, eqb}
 use Rattle.plan.specs.declared.ir.IR.{IR}
 use Rattle.plan.specs.Kinds.{same-ir, ir-number}
 use Rattle.plan.specs.Lists.{if_then_else_, yes?, empty?}
 use Rattle.plan.proofs.ListLaws.{and-left, and-right}
 use Rattle.plan.specs.Sheet.{Sheet, Outcome, refused, done, _then_, refuse_when_else_, Line, E, P, line-of, expr-fits, expr-of, with-expr, step-fits, step-of, with-step, over-limits, no-plan, read-line, read-lines, onto, parts}
 use Rattle.plan.specs.Visit.{Run, Looked, simplify-ir-node-orders, goes, unlink-node, settle, settled, refusal-in, looked-in, looks-of, options-of, join-fails, sink-fails, elementwise}
 use Rattle.plan.specs.Walks.{walk, trace, then-all}
-use Rattle.claims.specs.Demand1.{Join-observes, Sink-observes, Not-of-form, Outside-table, In-table, Read-into, At-line, At-end}
-use Rattle.claims.proofs.Counts.{true-of, not-both}
-use Rattle.claims.proofs.Booleans.{and-both}
-use Rattle.claims.proofs.StepTable.{same-kind}
+use Rattle.plan.specs.Conditions.{Join-observes, Sink-observes, Not-of-form, Outside-table, In-table, Read-into, At-line, At-end}
+use Rattle.plan.proofs.Counts.{true-of, not-both}
+use Rattle.plan.proofs.Booleans.{and-both}
+use Rattle.plan.proofs.KindNumbers.{same-kind}
 
 -- Outcomes that came to a refusal -------------------------------------------------------------------------------------------------
 

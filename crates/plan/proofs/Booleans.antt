@@ -1,15 +1,15 @@
 -- Tests, and tests of every entry of a list.
-use mathlib.Core.Path.{_≡_, refl, subst}
+use mathlib.Core.Path.{_≡_, refl, ap, subst}
 use mathlib.Core.Logic.{_≢_}
 use Prim.Native.Nat.{ℕ, zero, suc, _+_, _<_}
 use native.Mathlib.Omega.{arith}
 use native.Mathlib.Nat.{not-suc-le-zero}
 use mathlib.Core.Bool.{Bool, true, false, _&&_}
-use mathlib.Core.List.{List, [], _∷_, _++_}
+use mathlib.Core.List.{List, [], _∷_, _++_, List·Memᴰ, List·Memᴰ·head, List·Memᴰ·tail}
 use lib.Dec.{T, eqb, eqb→eq, eqb-refl}
 use lib.ListN.{length, getD}
 use Rattle.plan.specs.Lists.{all?, numbered}
 use Rattle.plan.proofs.ListLaws.{and-left, and-right}
 
 pub and-both : (a b : Bool) → T a → T b → T (a && b)
 and-both true b t u = u
@@ -50,3 +50,12 @@ numbered-at f k (x ∷ l) d t (suc i) h =
 
 pub entry-at : {A : Type 0} (f : ℕ × A → Bool) (l : List A) (d : A) → T (all? f (numbered 0 l)) → (i : ℕ) → i < length l → T (f (i, getD l i d))
 entry-at f l d t i h = subst (λ n. T (f (n, getD l i d))) (omega arith) (numbered-at f 0 l d t i h)
+
+numbered-in : {A : Type 0} (k : ℕ) (l : List A) (d : A) (i : ℕ) → i < length l → List·Memᴰ (k + i, getD l i d) (numbered k l)
+unfolding numbered
+numbered-in k [] d i h = absurd (not-suc-le-zero h)
+numbered-in k (x ∷ l) d zero h = let e : k + 0 ≡ k = omega arith in List·Memᴰ·head (ap (λ n. (n, x)) e)
+numbered-in k (x ∷ l) d (suc i) h = List·Memᴰ·tail (subst (λ n. List·Memᴰ (n, getD l i d) (numbered (suc k) l)) (omega arith) (numbered-in (suc k) l d i (omega arith)))
+
+pub entry-in : {A : Type 0} (l : List A) (d : A) (i : ℕ) → i < length l → List·Memᴰ (i, getD l i d) (numbered 0 l)
+entry-in l d i h = subst (λ n. List·Memᴰ (n, getD l i d) (numbered 0 l)) (omega arith) (numbered-in 0 l d i h)
