@@ -4,7 +4,7 @@
     oracle/compare_definition.py FAMILY SEED COUNT      generated sheets
     oracle/compare_definition.py hand-made              those of hand_made_sheets.py, but for the few of 16 KB and for refusal 1
 
-Copies the crates plan and tally to a temporary repository, adds a module of proofs/ with a row for each sheet (the sheet, and the oracle's
+Copies the crate plan to a temporary folder, adds a module of proofs/ with a row for each sheet (the sheet, and the oracle's
 answer), and has it proved: a row is proved by computing. Prints the count of rows, or the first that is refused.
 The oracle has to be built first (README, 'Comparing with the Rust').
 """
@@ -54,14 +54,12 @@ def main():
     answers = answers.split(MARK)[:-1]
     assert len(sheets) == len(answers)
     with tempfile.TemporaryDirectory() as folder:
-        plan = pathlib.Path(folder) / "crates" / "plan"
-        for crate in ("tally", "plan"):
-            shutil.copytree(ROOT / "crates" / crate, plan.parent / crate, ignore=shutil.ignore_patterns("must-fail"))
-        (pathlib.Path(folder) / "crates.txt").write_text("tally:\nplan: tally\n")
+        plan = pathlib.Path(folder) / "plan"
+        shutil.copytree(ROOT / "crates" / "plan", plan, ignore=shutil.ignore_patterns("must-fail"))
         (plan / "proofs" / "Rows.antt").write_text(HEAD + "".join(map(row, range(len(sheets)), sheets, answers)))
         with open(plan / "proofs" / "Lib.antt", "a") as lib:
             lib.write("pub mod Rows\n")
-        run = subprocess.run(["rt", "check", "plan"], cwd=folder, stdout=subprocess.PIPE, stderr=subprocess.STDOUT, text=True)
+        run = subprocess.run(["rt", "check", plan], stdout=subprocess.PIPE, stderr=subprocess.STDOUT, text=True)
     bad = re.search(r"`row(\d+)`", run.stdout)
     if run.returncode != 0:
         print(run.stdout[-2000:] if not bad else f"row {bad[1]} differs")

@@ -11,7 +11,7 @@ use Rattle.plan.specs.declared.ir.IR.{IR}
 use Rattle.plan.specs.Kinds.{same-ir}
 use Rattle.plan.specs.Lists.{if_then_else_, sum}
 use Rattle.plan.specs.Sheet.{Expr, Step, no-step, step-at, expr-at}
-use Rattle.tally.specs.declared.Tally.{Tally}
+use Rattle.plan.specs.declared.tally.Tally.{Tally}
 use Rattle.plan.specs.declared.rules.Options.{Options}
 use Rattle.plan.specs.declared.rules.Around.{Around}
 use Rattle.plan.specs.Visit.{Run, Looked, looked-in, looks-of, options-of, with-options, ruling, ruled-step, with-implodes}

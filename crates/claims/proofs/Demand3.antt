@@ -5,7 +5,7 @@ use Prim.Native.Nat.{ℕ}
 use Rattle.plan.specs.Sheet.{done, _then_, read}
 use Rattle.plan.specs.Faults.{checked}
 use Rattle.plan.specs.Walks.{down, up, simplify-and-fetch-orderings}
-use Rattle.plan.specs.Text.{printed, edges-block, tally-line}
+use Rattle.plan.specs.Text.{printed, edges-block, tally-line, blocks, joined}
 use Rattle.plan.specs.Finished.{run, finished}
 use Rattle.claims.specs.Demand3.{Finished-run, Demand-3}
 use Rattle.plan.proofs.Outcomes.{both-done, same-value}
@@ -14,7 +14,7 @@ use Rattle.claims.proofs.Removals.{removal}
 use Rattle.claims.proofs.LooksBounded.{looks-down, looks-up}
 
 finished-run : (s out : List ℕ) → finished s ≡ done out → Finished-run s out
-unfolding finished run simplify-and-fetch-orderings printed edges-block tally-line
+unfolding finished run simplify-and-fetch-orderings blocks joined printed edges-block tally-line
 finished-run s out e =
     let (whole, runs, prints) = both-done (run s) (λ r. done (printed r)) e in
     let (sh, accepted, walks) = both-done (read s then checked) simplify-and-fetch-orderings runs in

@@ -10,7 +10,7 @@ use Rattle.plan.specs.Lists.{if_then_else_}
 use Rattle.plan.specs.Sheet.{Expr, Step, expr-at, step-at}
 use Rattle.plan.specs.Orders.{∅, ExprOrderAcc, no-orders, add, single}
 use Rattle.plan.specs.Look.{Eos, one-look, internal-observe, Before, before, in-order, check-return-cached, is-replaced, replace-by-input, after, enter-struct, Look, look-along, look-again, look-along-children, look-ended, look-whole, look-at, look, simplify-projected-exprs, NO-DEORDER}
-use Rattle.tally.specs.declared.Tally.{Tally}
+use Rattle.plan.specs.declared.tally.Tally.{Tally}
 use Rattle.plan.specs.declared.rules.Around.{Around}
 use Rattle.plan.specs.Visit.{Run, around, looks-of, looked-in}
 

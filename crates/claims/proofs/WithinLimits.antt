@@ -9,7 +9,7 @@ use Rattle.plan.specs.Faults.{checked}
 use Rattle.plan.specs.Graph.{graph}
 use Rattle.plan.specs.Visit.{Run, no-edge, simplify-ir-node-orders}
 use Rattle.plan.specs.Walks.{begin, down, up, simplify-and-fetch-orderings}
-use Rattle.plan.specs.Text.{printed, exprs-block, steps-block, edges-block, tally-line, expr-line, step-line, edge-line}
+use Rattle.plan.specs.Text.{printed, exprs-block, steps-block, edges-block, tally-line, expr-line, step-line, edge-line, blocks, joined}
 use Rattle.plan.specs.Finished.{run, finished}
 use Rattle.claims.specs.WellFormed.{Accepted}
 use Rattle.claims.specs.Limits.{Within-limits}
@@ -71,7 +71,7 @@ module _ (r : Run) (k : Within 576 0 r) (p : Printable r) where
       edge-line-short d (omega (arith, short .consumer)) (omega (arith, short .slot)))
 
   printed-short : length (printed r) ≤ 14080
-  unfolding printed
+  unfolding blocks joined printed
   printed-short =
       let tally = tally-line-short r (omega (arith, p .removed, k .visits)) (omega (arith, k .visits)) (omega (arith, k .looks, k .visits)) in
       omega (

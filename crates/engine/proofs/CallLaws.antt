@@ -12,7 +12,7 @@ use Rattle.plan.specs.Finished.{Called, called, run, finish, finished-answer, a
 use Rattle.plan.specs.Lists.{concat-map}
 use Rattle.plan.specs.Sheet.{Sheet, Outcome, refused, done, _then_, refuse_when_else_}
 use Rattle.storage.specs.Stored.{stored-steps}
-use Rattle.plan.specs.Text.{line, edge-line, exprs-block, steps-block, edges-block, tally-line, printed}
+use Rattle.plan.specs.Text.{line, edge-line, exprs-block, steps-block, edges-block, tally-line, printed, blocks, joined, end-of}
 use Rattle.plan.specs.Visit.{Run}
 use Rattle.plan.specs.Walks.{down, up, simplify-and-fetch-orderings}
 use Rattle.storage.proofs.Laws.{length-steps}
@@ -102,7 +102,7 @@ run-ends s sh half whole a d u = rw (a, d) u
 -- the G lines stand behind the E and P lines, the T line behind them
 edge-lines : (r : Run) (behind : List ℕ)
     → drop (length (exprs-block r ++ steps-block r)) (take (length (exprs-block r ++ steps-block r ++ edges-block r)) (printed r ++ behind)) ≡ concat-map edge-line (r .edges)
-unfolding printed edges-block
+unfolding blocks joined printed edges-block
 edge-lines r behind =
     let before : List ℕ = exprs-block r ++ steps-block r ++ edges-block r in
     ap (drop (length (exprs-block r ++ steps-block r)))
@@ -111,7 +111,7 @@ edge-lines r behind =
     ∙ drop-append-seam (exprs-block r ++ steps-block r) (edges-block r)
 
 last-line : (r : Run) → drop (length (exprs-block r ++ steps-block r ++ edges-block r)) (printed r) ≡ line 84 (length (r .removed) ∷ r .tally .visits ∷ r .tally .looks ∷ [])
-unfolding printed tally-line
+unfolding blocks joined printed tally-line
 last-line r = drop-append-seam (exprs-block r ++ steps-block r ++ edges-block r) (tally-line r)
 
 module _ (s entry : List ℕ) (r : Run) (runs : run s ≡ done r) where
@@ -130,7 +130,7 @@ module _ (s entry : List ℕ) (r : Run) (runs : run s ≡ done r) where
       same-value (sym (run-ends s (k .sheet) (k .half) (k .whole) (k .accepted) (k .down-ends) (k .up-ends)) ∙ runs)
 
   stands : Stands s (printed r ++ behind) (finished-answer r)
-  unfolding finished-answer
+  unfolding finished-answer end-of blocks joined
   stands =
       let k = of-sheet in
       record {
@@ -155,7 +155,7 @@ module _ (s entry : List ℕ) (r : Run) (runs : run s ≡ done r) where
 
 module _ (s entry exit : List ℕ) (r : Answer) (e : call r exit ≡ finish s entry) where
   kept : Demand-3-kept s exit r × (answer-length r ≤ length entry)
-  unfolding finished-answer
+  unfolding finished-answer end-of blocks joined
   kept = by (demand-1 s entry .either)
     where
       d : Demand-1 s entry

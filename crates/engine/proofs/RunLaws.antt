@@ -15,7 +15,7 @@ use Rattle.plan.specs.Graph.{Edge}
 use Rattle.plan.specs.Sheet.{Sheet, done}
 use Rattle.storage.specs.Stored.{table, arena-of, stored-exprs, stored-steps}
 use Rattle.storage.proofs.Laws.{same-table}
-use Rattle.plan.specs.Text.{expr-line, step-line, edge-line, tally-line, exprs-block, steps-block, edges-block, printed}
+use Rattle.plan.specs.Text.{expr-line, step-line, edge-line, tally-line, exprs-block, steps-block, edges-block, printed, blocks, joined, end-of}
 use Rattle.plan.specs.Text as text
 use Rattle.plan.specs.Visit.{Run}
 use Rattle.plan.specs.Walks.{simplify-and-fetch-orderings}
@@ -23,7 +23,7 @@ use Rattle.claims.specs.WellFormed.{WellFormed}
 use Rattle.reading.specs.Held.{sheet}
 use Rattle.ir_graph.specs.Edges.{made, edges-of}
 use Rattle.ir_graph.specs.declared.ir_graph.Graph.{Graph}
-use Rattle.tally.specs.declared.Tally.{Tally}
+use Rattle.plan.specs.declared.tally.Tally.{Tally}
 use Rattle.expr.specs.Start.{Own-lines, None-off}
 use Rattle.expr.proofs.Asked.{based-of-sheet}
 use Rattle.expr.proofs.Starts.{all-same, arena-at-start}
@@ -107,16 +107,16 @@ finished-is r i j k l m n o = rw (← i, ← j, ← k, ← l, ← m, ← n, ← 
 -- the blocks e, p, g, t are those of the run
 module _ (run : Run) (e p g t entry exit : List ℕ) (f : Finished) (w : Sheet-wrote e p g t entry exit f) (is-e : e ≡ exprs-block run)
     (is-p : p ≡ steps-block run) (is-g : g ≡ edges-block run) (is-t : t ≡ tally-line run) where
-  blocks : Sheet-wrote (exprs-block run) (steps-block run) (edges-block run) (tally-line run) entry exit f
-  blocks = rw (← is-e, ← is-p, ← is-g, ← is-t) w
+  wrote : Sheet-wrote (exprs-block run) (steps-block run) (edges-block run) (tally-line run) entry exit f
+  wrote = rw (← is-e, ← is-p, ← is-g, ← is-t) w
 
   bytes-are : exit ≡ printed run ++ drop (length (printed run)) entry
-  unfolding printed
-  bytes-are = blocks .bytes
+  unfolding blocks joined printed
+  bytes-are = wrote .bytes
 
   answer-is : f .removed ≡ length (run .removed) → f .visits ≡ run .tally .visits → f .looks ≡ run .tally .looks → f ≡ finished-answer run
-  unfolding finished-answer printed
-  answer-is x y z = finished-is f (blocks .exprs) (blocks .steps) (blocks .edges) (blocks .all) x y z
+  unfolding finished-answer end-of blocks joined printed
+  answer-is x y z = finished-is f (wrote .exprs) (wrote .steps) (wrote .edges) (wrote .all) x y z
 
 module _ (recs line : List ℕ) (off : List Bool) (m : ℕ) (steps : List ℕ) (n : ℕ) (consumer slot : List ℕ) (unordered : List Bool) (edges removed : ℕ) (tally : Tally) (xs entry exit : List ℕ) (f : Finished) where
   abbrev run : List ℕ → List ℕ → List ℕ → Run

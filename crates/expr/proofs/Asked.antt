@@ -16,7 +16,7 @@ use Rattle.claims.proofs.Changes.{Fits}
 use Rattle.claims.proofs.Changes as claims
 use Rattle.claims.proofs.Once.{formed-at-start}
 use Rattle.claims.proofs.ListFits.{list-fits}
-use Rattle.tally.specs.declared.Tally.{Tally}
+use Rattle.plan.specs.declared.tally.Tally.{Tally}
 use Rattle.expr.specs.State.{State, eos-of, Falls, Based}
 use Rattle.expr.specs.Projected.{Started, ListAsks}
 use Rattle.expr.specs.Start.{Own-lines, None-off}

@@ -16,7 +16,7 @@ use Rattle.plan.specs.Look as plan
 use Rattle.storage.specs.Stored.{arena-of}
 use Rattle.plan.specs.Visit.{expr-order-simplifier}
 use Rattle.expr.specs.declared.before.Before.{Before}
-use Rattle.tally.specs.declared.Tally.{Tally}
+use Rattle.plan.specs.declared.tally.Tally.{Tally}
 use Rattle.expr.specs.Acc.{acc-of, none-seen}
 use Rattle.expr.specs.Cache.{cache-of}
 use Rattle.expr.specs.Record.{record-of}

@@ -9,7 +9,7 @@ use lib.ListN.{length, getD, set, replicate, length-replicate, length-set}
 use lib.Seq.{getD-set-same, getD-set-other}
 use Rattle.storage.specs.Stored.{stored-exprs, stored-expr, held-expr, arena-of}
 use Rattle.storage.proofs.Laws.{same-table}
-use Rattle.tally.specs.declared.Tally.{Tally}
+use Rattle.plan.specs.declared.tally.Tally.{Tally}
 use Rattle.expr.specs.State.{State, Formed}
 use Rattle.expr.specs.Projected.{Started}
 use Rattle.expr.specs.Start.{Own-lines, None-off}

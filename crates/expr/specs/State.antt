@@ -11,7 +11,7 @@ use Rattle.plan.specs.Lists.{all?}
 use Rattle.plan.specs.Sheet.{Expr}
 use Rattle.plan.specs.Look as look
 use Rattle.storage.specs.Stored.{stored-expr, arena-of, Expr-formed}
-use Rattle.tally.specs.declared.Tally.{Tally}
+use Rattle.plan.specs.declared.tally.Tally.{Tally}
 use Rattle.plan.specs.declared.orders.ObservableOrders.{ObservableOrders}
 use Rattle.expr.specs.declared.look.Eos.{Eos}
 use Rattle.expr.specs.Cache.{cache-of}

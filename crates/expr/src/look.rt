@@ -25,7 +25,7 @@ use crate::revisit_cache::packed;
 use crate::revisit_cache::unpacked;
 use plan::aexpr::AExpr;
 use plan::orders::ObservableOrders;
-use tally::Tally;
+use plan::tally::Tally;
 use tally::looked;
 
 // What the looks of one visit share: ExprOrderSimplifier. Its own fields go by value. Lent to it, as in the Rust, are the

@@ -14,7 +14,7 @@ use crate::order_acc::pick;
 use crate::record::ExprRecord;
 use plan::aexpr::AExpr;
 use plan::orders::ObservableOrders;
-use tally::Tally;
+use plan::tally::Tally;
 
 const EMPTY: ObservableOrders = ObservableOrders {
     column: false,

@@ -14,8 +14,8 @@ use expr::start::own_lines;
 use libc::STDOUT_FILENO;
 use plan::orders::ObservableOrders;
 use plan::sizes::size_2048;
+use plan::tally::Tally;
 use reading::read_plan;
-use tally::Tally;
 
 fn wide(x: u8) -> usize
     ensures { λ r. ⌜ (r ≡ x) × (r < 256) ⌝ }

@@ -11,7 +11,7 @@ use expr::projected::simplify_projected_exprs;
 use expr::start::none_off;
 use expr::start::own_lines;
 use plan::sizes::size_2048;
-use tally::Tally;
+use plan::tally::Tally;
 
 // The looks at the list of the root alone, from the state that a run starts with.
 #[no_mangle]

@@ -14,7 +14,7 @@ use Rattle.plan.specs.Finished.{Called, called, run, finish, finished-answer, t
 use Rattle.plan.specs.Graph.{Edge}
 use Rattle.plan.specs.Lists.{same, concat-map}
 use Rattle.plan.specs.Sheet.{Outcome, refused, done, refuse_when_else_}
-use Rattle.plan.specs.Text.{line, edge-line, exprs-block, steps-block, edges-block, tally-line, printed}
+use Rattle.plan.specs.Text.{line, edge-line, exprs-block, steps-block, edges-block, tally-line, printed, blocks, joined, end-of}
 use Rattle.plan.specs.Visit.{Run}
 use Rattle.plan.proofs.ListLaws.{same→eq}
 use Rattle.plan.specs.Conditions.{refusal-numbers}
@@ -76,7 +76,7 @@ module _ (paper entry exit : List ℕ) where
 
   edge-lines : (f : Finished) (r : Run) → call (Answer.Finished f) exit ≡ called entry (done r)
       → take (f .edges - f .steps) (drop (f .steps) exit) ≡ edges-block r
-  unfolding called told finished-answer printed
+  unfolding called told finished-answer end-of blocks joined printed
   edge-lines f r e =
       ap (λ (l : List ℕ). take (f .edges - f .steps) (drop (f .steps) l)) (ap (λ (x : Called). x .output) e)
       ∙ second-part (exprs-block r ++ steps-block r) (edges-block r) (tally-line r) (drop (length (printed r)) entry) (f .steps) (f .edges)
@@ -94,7 +94,7 @@ module _ (paper entry exit : List ℕ) where
 
 module _ (entry exit : List ℕ) where
   within-by : (f : Finished) (o : Outcome Run) → call (Answer.Finished f) exit ≡ called entry o → (f .steps ≤ f .edges) × (f .edges ≤ length exit)
-  unfolding called told finished-answer printed
+  unfolding called told finished-answer end-of blocks joined printed
   within-by f (refused n) e = let z : _≡_ {A = ℕ} 1 0 = ap (λ (x : Called). told (x .answer) .0) e in absurd (omega arith)
   within-by f (done r) e =
       let front : List ℕ = exprs-block r ++ steps-block r in

@@ -10,7 +10,7 @@ use Rattle.plan.specs.Sheet.{Outcome, refused, done, _then_, refuse_when
 use Rattle.plan.specs.Faults.{checked}
 use Rattle.plan.specs.Visit.{Run}
 use Rattle.plan.specs.Walks.{simplify-and-fetch-orderings}
-use Rattle.plan.specs.Text.{exprs-block, steps-block, edges-block, printed}
+use Rattle.plan.specs.Text.{printed, end-of}
 
 -- the run that finishes a sheet, or the number that turns it back (2 to 11)
 unfoldable pub run : List ℕ → Outcome Run
@@ -30,9 +30,9 @@ pub record Called : Type 0 where
 unfoldable pub finished-answer : Run → Finished
 finished-answer r =
     record {
-      exprs = length (exprs-block r);
-      steps = length (exprs-block r ++ steps-block r);
-      edges = length (exprs-block r ++ steps-block r ++ edges-block r);
+      exprs = end-of 1 r;
+      steps = end-of 2 r;
+      edges = end-of 3 r;
       length = length (printed r);
       removed = length (r .removed);
       visits = r .tally .visits;

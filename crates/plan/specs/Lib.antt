@@ -6,6 +6,7 @@ pub mod Sheet
 pub mod Faults
 pub mod Graph
 pub mod Orders
+pub mod Tally
 pub mod Look
 pub mod Visit
 pub mod Walks

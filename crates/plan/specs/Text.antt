@@ -1,15 +1,14 @@
 -- The finished sheet as text: all E lines, all P lines, a G line for each edge by number, and the T line.
 use Prim.Native.Nat.{ℕ, zero, suc, _+_, _/_, _%_}
-use mathlib.Core.Bool.{true, false}
+use mathlib.Core.Bool.{true, false, not}
 use mathlib.Core.List.{List, [], _∷_, _++_}
 use lib.Dec.{ltb}
-use lib.ListN.{length}
+use lib.ListN.{length, take}
 use Rattle.plan.specs.Kinds.{aexpr-number, ir-number}
 use Rattle.plan.specs.Lists.{concat-map, digit}
 use Rattle.plan.specs.Sheet.{Expr, Step}
 use Rattle.plan.specs.Graph.{Edge}
 use Rattle.plan.specs.Visit.{Run}
-use mathlib.Core.Bool.{not}
 
 -- base ten; the fuel is above the number of digits
 unfoldable pub digits : ℕ → ℕ → List ℕ
@@ -38,7 +37,8 @@ edge-line d = line 71 (d .consumer ∷ d .slot ∷ digit (not (d .unordered)) �
 unfoldable pub tally-line : Run → List ℕ
 tally-line r = line 84 (length (r .removed) ∷ r .tally .visits ∷ r .tally .looks ∷ [])
 
--- the four blocks
+-- The blocks ---------------------------------------------------------------------------------------------------------------
+
 unfoldable pub exprs-block : Run → List ℕ
 exprs-block r = concat-map expr-line (r .arena)
 
@@ -48,5 +48,18 @@ steps-block r = concat-map step-line (r .steps)
 unfoldable pub edges-block : Run → List ℕ
 edges-block r = concat-map edge-line (r .edges)
 
+-- in their order
+unfoldable pub blocks : Run → List (List ℕ)
+blocks r = exprs-block r ∷ steps-block r ∷ edges-block r ∷ tally-line r ∷ []
+
+-- a text with blocks behind it
+unfoldable pub joined : List ℕ → List (List ℕ) → List ℕ
+joined text [] = text
+joined text (b ∷ bs) = joined (text ++ b) bs
+
 unfoldable pub printed : Run → List ℕ
-printed r = exprs-block r ++ steps-block r ++ edges-block r ++ tally-line r
+printed r = joined [] (blocks r)
+
+-- where the first k blocks end
+unfoldable pub end-of : ℕ → Run → ℕ
+end-of k r = length (joined [] (take k (blocks r)))

@@ -5,8 +5,8 @@ use mathlib.Core.List.{List, [], _∷_, _++_, map}
 use mathlib.Core.Option.{none, some}
 use lib.Dec.{eqb}
 use lib.ListN.{getD, set, length}
-use Rattle.tally.specs.declared.Tally.{Tally}
-use Rattle.tally.specs.Count.{visit-more}
+use Rattle.plan.specs.declared.tally.Tally.{Tally}
+use Rattle.plan.specs.Tally.{visit-more}
 use Rattle.plan.specs.declared.aexpr.AExpr.{AExpr}
 use Rattle.plan.specs.declared.ir.IR.{IR}
 use Rattle.plan.specs.declared.distinct.UniqueKeepStrategy.{UniqueKeepStrategy}

@@ -9,3 +9,4 @@ pub mod join; // join.rt: JoinType, MaintainOrderJoin
 pub mod orders; // orders.rt: ObservableOrders
 pub mod rules; // rules.rt: Options, Around, Observable, Loosened, Ruled: what a rule reads and gives
 pub mod sizes; // sizes.rt: the length of an array, as a fact for proofs
+pub mod tally; // tally.rt: Tally

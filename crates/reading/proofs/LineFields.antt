@@ -259,7 +259,7 @@ module _ (s rest v : List ℕ) (len count : ℕ) (w : Sofar s len count v rest) 
   breaks e =
       record {
         good = λ t. absurd (true-false (sym t));
-        bad = λ _. w .are ∙ ap (prepend (w .list)) (broken rest e);
+        bad = λ _. record { are = w .are ∙ ap (prepend (w .list)) (broken rest e); answer = refl; size = w .kept .size };
       }
 
 -- The code's needs ----------------------------------------------------------------------------------------------------------

@@ -64,7 +64,13 @@ pub record All-read (s : List ℕ) (r : Numbers) (v : List ℕ) : Type 0 where
   pub kept : Kept list v
   pub len : r .len ≡ suc (length (line s))
 
+-- the line is broken: no length and no count are given. Which numbers v holds, is left free; it has its length
+pub record None-read (s : List ℕ) (r : Numbers) (v : List ℕ) : Type 0 where
+  pub are : numbers-of s ≡ none
+  pub answer : r ≡ record { ok = false; len = 0; count = 0 }
+  pub size : length v ≡ 32
+
 -- the answer for the bytes s, with the numbers in v
 pub record Numbers-read (s : List ℕ) (r : Numbers) (v : List ℕ) : Type 0 where
   pub good : r .ok ≡ true → All-read s r v
-  pub bad : r .ok ≡ false → numbers-of s ≡ none
+  pub bad : r .ok ≡ false → None-read s r v

@@ -14,7 +14,7 @@ use Rattle.plan.specs.Visit.{Run}
 use Rattle.plan.specs.Walks.{walk, begin, down, up, simplify-and-fetch-orderings}
 use Rattle.claims.specs.WellFormed.{WellFormed}
 use Rattle.claims.proofs.Visitables.{Going, going-begin, going-half}
-use Rattle.tally.specs.declared.Tally.{Tally}
+use Rattle.plan.specs.declared.tally.Tally.{Tally}
 use Rattle.simplify_ordering.specs.declared.walks.Orderings.{Orderings}
 use Rattle.simplify_ordering.specs.declared.walks.Walked.{Walked}
 use Rattle.simplify_ordering.specs.Run.{run-of}

@@ -18,7 +18,7 @@ use Rattle.plan.specs.declared.rules.Around.{Around}
 use Rattle.plan.specs.Visit as Visit
 use Rattle.storage.proofs.Laws.{length-arena}
 use Rattle.plan.proofs.Counts.{mem-at}
-use Rattle.tally.specs.declared.Tally.{Tally}
+use Rattle.plan.specs.declared.tally.Tally.{Tally}
 use Rattle.expr.specs.Contract.{looked-of}
 use Rattle.expr.specs.Projected.{Started, ListAsks, ListGives}
 use Rattle.expr.specs.State.{State, eos-of, Falls, Formed}

@@ -20,8 +20,8 @@ use Rattle.plan.specs.Visit.{Run, Looked, around, options-of, with-options, loo
 use Rattle.plan.specs.Visit as Visit
 use Rattle.plan.specs.Visit.{no-edge}
 use Rattle.storage.proofs.Laws.{length-table, table-at, length-steps}
-use Rattle.tally.specs.declared.Tally.{Tally}
-use Rattle.tally.specs.Count.{visit-more}
+use Rattle.plan.specs.declared.tally.Tally.{Tally}
+use Rattle.plan.specs.Tally.{visit-more}
 use Rattle.plan.specs.declared.rules.Options.{Options}
 use Rattle.plan.specs.declared.rules.Around.{Around}
 use Rattle.plan.specs.declared.rules.Observable.{Observable}

@@ -10,7 +10,7 @@ use Rattle.plan.specs.Look.{Eos, simplify-projected-exprs}
 use Rattle.storage.specs.Stored.{arena-of, stored-steps, Steps-held}
 use Rattle.plan.specs.Visit.{expr-order-simplifier}
 use Rattle.plan.specs.Visit as Visit
-use Rattle.tally.specs.declared.Tally.{Tally}
+use Rattle.plan.specs.declared.tally.Tally.{Tally}
 use Rattle.simplify_ordering.specs.declared.looks.Looked.{Looked}
 use Rattle.node_rules.specs.declared.steps.Entries.{Entries}
 use Rattle.simplify_ordering.specs.Arena.{Arena-held}

@@ -13,7 +13,7 @@ use Rattle.plan.specs.Sheet.{Step, Outcome, refused, done, step-at}
 use Rattle.plan.specs.Graph.{Edge}
 use Rattle.storage.specs.Stored.{arena-of, stored-steps, Steps-held}
 use Rattle.plan.specs.Visit.{Run, options-of, with-options, rule, loosened, join-fails, sink-fails, looked-in}
-use Rattle.tally.specs.declared.Tally.{Tally}
+use Rattle.plan.specs.declared.tally.Tally.{Tally}
 use Rattle.simplify_ordering.specs.declared.visit.Visit.{Visit}
 use Rattle.simplify_ordering.specs.declared.visit.Visited.{Visited}
 use Rattle.simplify_ordering.specs.Arena.{Arena-held}

@@ -11,7 +11,7 @@ use Rattle.plan.specs.Visit.{Run, simplify-ir-node-orders}
 use Rattle.plan.specs.Walks.{walk, down}
 use Rattle.claims.specs.WellFormed.{WellFormed}
 use Rattle.claims.proofs.Visitables.{Going}
-use Rattle.tally.specs.declared.Tally.{Tally}
+use Rattle.plan.specs.declared.tally.Tally.{Tally}
 use Rattle.simplify_ordering.specs.declared.walks.Fetched.{Fetched}
 use Rattle.simplify_ordering.specs.declared.walks.Orderings.{Orderings}
 use Rattle.simplify_ordering.specs.declared.walks.Walked.{Walked}

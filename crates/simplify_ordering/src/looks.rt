@@ -19,7 +19,7 @@ use plan::ir::IR;
 use plan::rules::Around;
 use plan::rules::Observable;
 use plan::rules::Options;
-use tally::Tally;
+use plan::tally::Tally;
 
 // What was observed, the tally afterwards, and how many records the arena has.
 pub struct Looked {

@@ -24,7 +24,7 @@ use node_rules::unlink::unlink_node;
 use plan::rules::Around;
 use plan::rules::Observable;
 use plan::rules::Options;
-use tally::Tally;
+use plan::tally::Tally;
 use tally::visited;
 
 // What comes of a visit: the step was settled, or it was a sort that is removed, or the sheet is refused by 10 or 11.

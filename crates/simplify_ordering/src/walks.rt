@@ -12,7 +12,7 @@ use crate::visit::Visit;
 use crate::visit::Visited;
 use crate::visit::simplify_ir_node_orders;
 use plan::sizes::size_288;
-use tally::Tally;
+use plan::tally::Tally;
 
 // How far a walk has come.
 pub struct Walked {

@@ -18,9 +18,9 @@ use denote.Memory.{mem, cellAt, partOf}
 use denote.Ref.{RefT, MutRef}
 use denote.Steps.{owned}
 use denote.Struct.Laws as LL
-use Rattle.tally.specs.declared.Tally.{Tally}
-use Rattle.tally.proofs.Tally as T
-use Rattle.tally.proofs.Tally.Laws as T′
+use Rattle.plan.specs.declared.tally.Tally.{Tally}
+use Rattle.plan.proofs.tally.Tally as T
+use Rattle.plan.proofs.tally.Tally.Laws as T′
 
 abbrev pub R : RattleType
 R = T.the-row

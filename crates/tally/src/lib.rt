@@ -1,12 +1,8 @@
-// The tally of a run: how many visits and looks were made. It is lent to two counters, the only places that add to it.
+// The counters of visits and looks: the tally is lent to them, and they are the only places that add to it.
 ghost use mathlib.Core.Path.{_≡_};
 ghost use Prim.Native.Nat.{_+_, _<_, _^_};
-ghost use Rattle.tally.specs.Count.{visit-more, look-more};
-
-pub struct Tally {
-    pub visits: u64,
-    pub looks: u64,
-}
+ghost use Rattle.plan.specs.Tally.{visit-more, look-more};
+use plan::tally::Tally;
 
 fn one_more(n: u64) -> u64
     requires { ⌜ n + 1 < 2 ^ 64 ⌝ }

@@ -37,10 +37,10 @@ use denote.Triple.Entry.{onEntry}
 use denote.Triple.Spec.{Meets, tripleOf}
 use denote.Triple.Table.{entered, cited}
 use denote.Triple.Walked.{says, needs, Stays, stay-ref, walkOf, goes-ref, Walks, ends-at, walked, walk-meets}
-use Rattle.tally.specs.declared.Tally.{Tally}
+use Rattle.plan.specs.declared.tally.Tally.{Tally}
 use Rattle.tally.proofs.Held.{R, tally-of, mach, looks-fit, visits-fit, made}
-use Rattle.tally.proofs.Tally as T
-use Rattle.tally.proofs.Tally.Laws as T′
+use Rattle.plan.proofs.tally.Tally as T
+use Rattle.plan.proofs.tally.Tally.Laws as T′
 use Rattle.tally.proofs.one_more as one-more
 use Rattle.tally.proofs.one_more.Symbol as one-more-def
 use Rattle.tally.proofs.one_more.Symbol.{name as #tally·one-more}

@@ -37,10 +37,10 @@ use denote.Triple.Spec.{Meets, tripleOf}
 use denote.Triple.Table.{entered, cited}
 use denote.Triple.Walked.{says, needs, Stays, stay-none, walkOf, goes-none, Walks, ends-at, walked, walk-meets}
 use denote.Exit.{yes}
-use Rattle.tally.specs.declared.Tally.{Tally}
+use Rattle.plan.specs.declared.tally.Tally.{Tally}
 use Rattle.tally.proofs.Held.{R, tally-of, mach, lies, typed, lent-at, lent}
-use Rattle.tally.proofs.Tally as T
-use Rattle.tally.proofs.Tally.Laws as T′
+use Rattle.plan.proofs.tally.Tally as T
+use Rattle.plan.proofs.tally.Tally.Laws as T′
 use Rattle.tally.proofs.count_visit as count-visit
 use Rattle.tally.proofs.count_visit.Symbol as count-visit-def
 use Rattle.tally.proofs.count_visit.Symbol.{name as #tally·count-visit}

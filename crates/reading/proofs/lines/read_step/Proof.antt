@@ -9,7 +9,7 @@ read-numbers-requires : tie.Need-read-numbers-requires
 read-numbers-requires c κs = search needs
 
 returns : tie.Need-returns
-returns c = λ es snd. not-numbers _ _ _ (c .before .before .read-numbers .ensures .bad (not-true _ (c .if1 .taken)))
+returns c = λ es snd. not-numbers _ _ _ (c .before .before .read-numbers .ensures .bad (not-true _ (c .if1 .taken)) .are)
 
 returns-2 : tie.Need-returns-2
 returns-2 c = λ es snd. P-few _ _ _ (c .before .before .before .before .read-numbers .ensures .good (not-false _ (c .before .before .if1 .left))) (omega arith) _

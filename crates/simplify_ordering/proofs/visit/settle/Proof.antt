@@ -8,7 +8,7 @@ use Prim.Native.Nat.{_<_}
 use mathlib.Core.List.{[]}
 use mathlib.Core.Path.{_∙_, ap}
 use Rattle.plan.specs.Sheet.{step-at}
-use Rattle.tally.specs.Count.{visit-more}
+use Rattle.plan.specs.Tally.{visit-more}
 use native.Mathlib.Omega.{arith}
 use denote.Ref.{now}
 use Rattle.simplify_ordering.proofs.visit.settle.Statement.{statement}
