@@ -22,7 +22,7 @@ use plan::sizes::size_2048;
 use simplify_ordering::walks::Fetched;
 use simplify_ordering::walks::Orderings;
 use simplify_ordering::walks::simplify_and_fetch_orderings;
-use writing::finished::Counts;
+use writing::finished::BlockCounts;
 use writing::finished::Tallies;
 use writing::finished::put_finished;
 
@@ -54,7 +54,7 @@ fn write_run(
         consumer,
         slot,
         unordered,
-        Counts {
+        BlockCounts {
             exprs: f.exprs,
             steps: n_steps,
             edges,

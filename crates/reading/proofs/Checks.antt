@@ -22,7 +22,7 @@ use Rattle.reading.specs.Line.{line, ended, numbers-after, numbers-of, K
 use Rattle.reading.specs.Tables.{row, expr-numbers-fit, step-numbers-fit, most-a, most-b, most-c, inputs, exprs, most-aggs, within}
 use Rattle.reading.specs.Lines.{pasted, sheet-of, agg-entries, aggs-of, Sound, Line-taken}
 use Rattle.reading.specs.declared.line.Numbers.{Numbers}
-use Rattle.reading.specs.declared.lines.Tally.{Tally}
+use Rattle.reading.specs.declared.lines.LineCounts.{LineCounts}
 use Rattle.reading.proofs.Stores.{more-exprs, exprs-formed, more-steps, steps-formed}
 
 -- The tables by a line's numbers ---------------------------------------------------------------------------------------------
@@ -217,7 +217,7 @@ or-first : (a b : Bool) → a ≡ true → (a || b) ≡ true
 or-first true b e = refl
 or-first false b e = let w : _≡_ {A = ℕ} 0 1 = cc in absurd (omega arith)
 
-module _ (es ps : List ℕ) (t : Tally) (snd : Sound es ps t) where
+module _ (es ps : List ℕ) (t : LineCounts) (snd : Sound es ps t) where
   abbrev sh : Sheet
   sh = sheet-of es ps t
 
@@ -319,7 +319,7 @@ module _ (s v : List ℕ) (f : Numbers) (A : All-read s f v) where
         expr-fits-is (A .list)
         ∙ rw (← first-kept 0 (omega arith) (omega arith), ← first-kept 1 (omega arith) (omega arith), ← first-kept 2 (omega arith) (omega arith), ← first-kept 3 (omega arith) (omega arith), ← A .count) (sym e)
 
-    module _ (es ps : List ℕ) (t : Tally) (snd : Sound es ps t) where
+    module _ (es ps : List ℕ) (t : LineCounts) (snd : Sound es ps t) where
       pub E-late : (t .steps ≡ 0 → ⊥) → read-line (lettered (69 ∷ []) (numbers-of s)) (sheet-of es ps t) ≡ refused 3
       E-late k = ap (λ o. read-line o (sheet-of es ps t)) E-is ∙ after-steps (A .list) (sheet-of es ps t) (some-before es ps t snd k)
 
@@ -379,7 +379,7 @@ module _ (s v : List ℕ) (f : Numbers) (A : All-read s f v) where
         )
         (sym e)
 
-    module _ (es ps : List ℕ) (t : Tally) (snd : Sound es ps t) (r : Bool) (e : r ≡ numbers-fit) where
+    module _ (es ps : List ℕ) (t : LineCounts) (snd : Sound es ps t) (r : Bool) (e : r ≡ numbers-fit) where
       pub P-not : r ≡ false → read-line (lettered (80 ∷ []) (numbers-of s)) (sheet-of es ps t) ≡ refused 4
       P-not n = ap (λ o. read-line o (sheet-of es ps t)) P-is ∙ step-not (A .list) (sheet-of es ps t) (P-fits e ∙ n)
 

@@ -15,7 +15,7 @@ use Rattle.storage.proofs.Laws.{length-table}
 use Rattle.reading.specs.Held.{Exprs-held, sheet}
 use Rattle.reading.specs.Lines.{Sound, All-taken, Lines-read}
 use Rattle.reading.specs.Plan.{plan-of, checked-plan, Plan-is}
-use Rattle.reading.specs.declared.lines.Tally.{Tally}
+use Rattle.reading.specs.declared.lines.LineCounts.{LineCounts}
 use Rattle.reading.specs.declared.lines.Lines.{Lines}
 use Rattle.reading.specs.declared.Plan.{Plan}
 use Rattle.reading.specs.declared.Plan.the-variants.{Taken, Refused}
@@ -111,16 +111,16 @@ module _ (s : List ℕ) (h : length s ≤ 16384) where
   good-lines sh e = whole (done sh) e
 
 -- what sound bytes hold
-pub held-exprs : {es ps : List ℕ} {t : Tally} → Sound es ps t → Exprs-held es (t .exprs)
+pub held-exprs : {es ps : List ℕ} {t : LineCounts} → Sound es ps t → Exprs-held es (t .exprs)
 held-exprs s = record { few = (let h = s .few-exprs in omega arith); formed = s .exprs }
 
-pub held-steps : {es ps : List ℕ} {t : Tally} → Sound es ps t → length ps ≡ 1024 → Steps-held ps (t .steps)
+pub held-steps : {es ps : List ℕ} {t : LineCounts} → Sound es ps t → length ps ≡ 1024 → Steps-held ps (t .steps)
 held-steps s size = record { few = s .few-steps; size = size; formed = s .steps }
 
 pub refused-is : (s es ps : List ℕ) (r : Lines) (k : ℕ) → Lines-read s es ps r → r ≡ Lines.Refused k → read-lines (parts 10 s) no-lines ≡ refused k
 refused-is s es ps r k l e = subst (λ x. Lines-read s es ps x) e l
 
-pub read-is : (s es ps : List ℕ) (r : Lines) (t : Tally) → Lines-read s es ps r → r ≡ Lines.Read t → All-taken s es ps t
+pub read-is : (s es ps : List ℕ) (r : Lines) (t : LineCounts) → Lines-read s es ps r → r ≡ Lines.Read t → All-taken s es ps t
 read-is s es ps r t l e = subst (λ x. Lines-read s es ps x) e l
 
 pub same-plan : (o o′ : Outcome Sheet) (es ps : List ℕ) (r : Plan) → o ≡ o′ → Plan-is o′ es ps r → Plan-is o es ps r

@@ -10,9 +10,9 @@ use borrow.Author.Tests.{lt-ltb, le-ltb, le-leb, lt-leb, eq-eqb, ne-eqb, leb-tru
 use Rattle.plan.specs.Lists.{among}
 use Rattle.plan.specs.Sheet.{step-table}
 use Rattle.plan.proofs.ListLaws.{and-left, and-right}
-use Rattle.reading.specs.Tables.{row-of, row, expr-numbers-fit, limits, counts, most-a, most-b, most-c, inputs, exprs, most-aggs, within, step-numbers-fit}
+use Rattle.reading.specs.Tables.{row-of, row, expr-numbers-fit, limits, between, most-a, most-b, most-c, inputs, exprs, most-aggs, within, step-numbers-fit}
 use Rattle.reading.specs.declared.tables.Row.{Row}
-use Rattle.reading.specs.declared.tables.Counts.{Counts}
+use Rattle.reading.specs.declared.tables.Range.{Range}
 use Rattle.reading.proofs.Spans.{or-left, Apart, apart, each, on, span}
 
 -- Past the table every limit is 0
@@ -36,21 +36,21 @@ module _ (g : ℕ → ℕ) (v lo n : ℕ) (keys : List ℕ) (t : T (each (λ k. 
       (on (λ k. eqb v (g k) || among k keys) n lo t k (λ m. rw (eq-eqb v (g k) (past m)) tt) h))
 
 -- the same of the fewest and the most
-abbrev pub has : (ℕ → Counts) → ℕ → ℕ → ℕ → Bool
+abbrev pub has : (ℕ → Range) → ℕ → ℕ → ℕ → Bool
 has g l m k = eqb l (g k .least) && eqb m (g k .most)
 
-module _ (g : ℕ → Counts) (l m lo n : ℕ) (keys : List ℕ) (t : T (each (λ k. has g l m k || among k keys) lo n)) (k : ℕ) where
-  both : T (has g l m k) → counts l m ≡ g k
+module _ (g : ℕ → Range) (l m lo n : ℕ) (keys : List ℕ) (t : T (each (λ k. has g l m k || among k keys) lo n)) (k : ℕ) where
+  both : T (has g l m k) → between l m ≡ g k
   both u = rw (eqb→eq l (g k .least) (and-left (eqb l (g k .least)) (eqb m (g k .most)) u), eqb→eq m (g k .most) (and-right (eqb l (g k .least)) (eqb m (g k .most)) u))
 
-  pub counts-range : lo ≤ k → k < lo + n → Apart k keys → counts l m ≡ g k
+  pub counts-range : lo ≤ k → k < lo + n → Apart k keys → between l m ≡ g k
   counts-range h j a = both (or-left (has g l m k) (apart k keys a) (span (λ k. has g l m k || among k keys) n lo t k h j))
 
-  pub counts-rest : (lo + n ≤ k → counts l m ≡ g k) → lo ≤ k → Apart k keys → counts l m ≡ g k
+  pub counts-rest : (lo + n ≤ k → between l m ≡ g k) → lo ≤ k → Apart k keys → between l m ≡ g k
   counts-rest past h a =
       both (or-left (has g l m k) (apart k keys a) (on (λ k. has g l m k || among k keys) n lo t k (λ j. same-counts (past j)) h))
     where
-      same-counts : counts l m ≡ g k → T (has g l m k || among k keys)
+      same-counts : between l m ≡ g k → T (has g l m k || among k keys)
       same-counts e = rw (← e, eq-eqb l l refl, eq-eqb m m refl) tt
 
 pub past-a : (k : ℕ) → 19 ≤ k → 0 ≡ most-a k
@@ -65,11 +65,11 @@ pub past-c : (k : ℕ) → 19 ≤ k → 0 ≡ most-c k
 unfolding most-c
 past-c k h = sym (ap (λ l. l .2) (past k h))
 
-pub past-inputs : (k : ℕ) → 19 ≤ k → counts 0 0 ≡ inputs k
+pub past-inputs : (k : ℕ) → 19 ≤ k → between 0 0 ≡ inputs k
 unfolding inputs
 past-inputs k h = rw (past k h)
 
-pub past-exprs : (k : ℕ) → 19 ≤ k → counts 0 0 ≡ exprs k
+pub past-exprs : (k : ℕ) → 19 ≤ k → between 0 0 ≡ exprs k
 unfolding exprs
 past-exprs k h = rw (past k h)
 
@@ -199,10 +199,10 @@ pub summed : (n1 n2 n3 a b c : ℕ) → a ≡ n1 → b ≡ n2 → c ≡ n3 → 7
 summed n1 n2 n3 a b c p q r = omega arith
 
 -- within the counts of a row
-pub within-counts : (n : ℕ) (c d : Counts) {r : Bool} → c ≡ d → r ≡ within n c → r ≡ within n d
+pub within-counts : (n : ℕ) (c d : Range) {r : Bool} → c ≡ d → r ≡ within n c → r ≡ within n d
 within-counts n c d e f = f ∙ rw e
 
-pub within-eight : (n : ℕ) (c : Counts) (r : Bool) → r ≡ within n c → r ≡ true → c .most ≤ 8 → n ≤ 8
+pub within-eight : (n : ℕ) (c : Range) (r : Bool) → r ≡ within n c → r ≡ true → c .most ≤ 8 → n ≤ 8
 within-eight n c r e t h = let l = leb→le n (c .most) (and-right (leb (c .least) n) (leb n (c .most)) (rw (← e, t) tt)) in omega arith
 
 pub first-out : {r : Bool} (a b c : Bool) → r ≡ a → r ≡ false → false ≡ (a && b && c)

@@ -15,7 +15,7 @@ use Rattle.storage.specs.Stored.{stored-exprs, stored-steps, table}
 use Rattle.plan.proofs.ListLaws.{part-from}
 use Rattle.reading.specs.Line.{line, ended, line-here, numbers-after, numbers-of}
 use Rattle.reading.specs.Lines.{sheet-of, agg-entries, Sound, Line-taken, Line-read, All-taken}
-use Rattle.reading.specs.declared.lines.Tally.{Tally}
+use Rattle.reading.specs.declared.lines.LineCounts.{LineCounts}
 use Rattle.reading.specs.declared.lines.Reading.{Reading}
 use Rattle.reading.specs.declared.lines.Reading.the-variants.{Taken, Refused}
 
@@ -85,7 +85,7 @@ no-line x m e f = by (ended (x ∷ m)) (eqb x 10) refl
     by true true g = rw (line, g) empty-line
     by true false g = rw (line, g) (other-by x (line m) (eqb x 44) refl e f)
 
-module _ (s es ps es′ ps′ : List ℕ) (t : Tally) (r : Reading) (h : 0 < length s) where
+module _ (s es ps es′ ps′ : List ℕ) (t : LineCounts) (r : Reading) (h : 0 < length s) where
   cut : (x : ℕ) → getD s 0 0 ≡ x → s ≡ x ∷ take (length s - 1) (drop 1 s)
   cut x e = rw (part-from s 1) (split s h e)
     where
@@ -188,7 +188,7 @@ shorter [] h = let z : _≡_ {A = ℕ} 0 1 = cc in absurd (omega arith)
 shorter (x ∷ s) h = shorter-by x s (eqb x 10) refl (shorter s) h
 
 -- the rest of the bytes, read into what was read of s, comes to the same as s
-pub record Along (s rest es ps : List ℕ) (t : Tally) : Type 0 where
+pub record Along (s rest es ps : List ℕ) (t : LineCounts) : Type 0 where
   pub same-end : read-lines (parts 10 s) no-lines ≡ read-lines (parts 10 rest) (sheet-of es ps t)
   pub sound : Sound es ps t
 
@@ -206,7 +206,7 @@ begin s es ps =
       };
     }
 
-module _ (rest es ps es′ ps′ : List ℕ) (t t′ : Tally) (n : ℕ) (l : Line-taken (line-here rest) rest es ps es′ ps′ t t′ n) where
+module _ (rest es ps es′ ps′ : List ℕ) (t t′ : LineCounts) (n : ℕ) (l : Line-taken (line-here rest) rest es ps es′ ps′ t t′ n) where
   pub within : n ≤ length rest
   within = let h = shorter rest (l .whole) in let e = l .long in omega arith
 
@@ -222,15 +222,15 @@ module _ (rest es ps es′ ps′ : List ℕ) (t t′ : Tally) (n : ℕ) (l : Lin
         sound = l .sound;
       }
 
-pub refuses : (s rest es ps : List ℕ) (t : Tally) (k : ℕ) → Along s rest es ps t → 0 < length rest → read-line (line-here rest) (sheet-of es ps t) ≡ refused k → read-lines (parts 10 s) no-lines ≡ refused k
+pub refuses : (s rest es ps : List ℕ) (t : LineCounts) (k : ℕ) → Along s rest es ps t → 0 < length rest → read-line (line-here rest) (sheet-of es ps t) ≡ refused k → read-lines (parts 10 s) no-lines ≡ refused k
 refuses s rest es ps t k a h e = a .same-end ∙ refused-here rest (sheet-of es ps t) k h e
 
-pub all-read : (s rest es ps : List ℕ) (t : Tally) → Along s rest es ps t → length rest ≡ 0 → All-taken s es ps t
+pub all-read : (s rest es ps : List ℕ) (t : LineCounts) → Along s rest es ps t → length rest ≡ 0 → All-taken s es ps t
 all-read s rest es ps t a h = record { taken = a .same-end ∙ none-left rest (sheet-of es ps t) h; sound = a .sound }
 
 -- a line's answer, once it is known which
-pub taken-is : (o : Option Line) (s es ps es′ ps′ : List ℕ) (t : Tally) (r : Reading) (t′ : Tally) (n : ℕ) → Line-read o s es ps es′ ps′ t r → r ≡ Taken t′ n → Line-taken o s es ps es′ ps′ t t′ n
+pub taken-is : (o : Option Line) (s es ps es′ ps′ : List ℕ) (t : LineCounts) (r : Reading) (t′ : LineCounts) (n : ℕ) → Line-read o s es ps es′ ps′ t r → r ≡ Taken t′ n → Line-taken o s es ps es′ ps′ t t′ n
 taken-is o s es ps es′ ps′ t r t′ n l e = subst (λ x. Line-read o s es ps es′ ps′ t x) e l
 
-pub refused-is : (o : Option Line) (s es ps es′ ps′ : List ℕ) (t : Tally) (r : Reading) (k : ℕ) → Line-read o s es ps es′ ps′ t r → r ≡ Refused k → read-line o (sheet-of es ps t) ≡ refused k
+pub refused-is : (o : Option Line) (s es ps es′ ps′ : List ℕ) (t : LineCounts) (r : Reading) (k : ℕ) → Line-read o s es ps es′ ps′ t r → r ≡ Refused k → read-line o (sheet-of es ps t) ≡ refused k
 refused-is o s es ps es′ ps′ t r k l e = subst (λ x. Line-read o s es ps es′ ps′ t x) e l

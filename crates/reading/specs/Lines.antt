@@ -13,7 +13,7 @@ use Rattle.plan.specs.Lists.{if_then_else_, sum}
 use Rattle.plan.specs.Sheet.{Sheet, Step, Line, refused, done, read-line, parts, read-lines, no-lines}
 use Rattle.storage.specs.Stored.{stored-exprs, stored-steps, Expr-formed, Step-formed}
 use Rattle.reading.specs.Line.{line, ended}
-use Rattle.reading.specs.declared.lines.Tally.{Tally}
+use Rattle.reading.specs.declared.lines.LineCounts.{LineCounts}
 use Rattle.reading.specs.declared.lines.Reading.{Reading}
 use Rattle.reading.specs.declared.lines.Lines.{Lines}
 use Rattle.reading.specs.declared.lines.Reading.the-variants.{Taken, Refused}
@@ -23,7 +23,7 @@ unfoldable pub pasted : List ℕ → ℕ → List ℕ → ℕ → List ℕ
 pasted d at v n = paste d at v n
 
 -- the E lines, agg entries and P lines taken so far
-abbrev pub sheet-of : List ℕ → List ℕ → Tally → Sheet
+abbrev pub sheet-of : List ℕ → List ℕ → LineCounts → Sheet
 sheet-of es ps t = record { exprs = stored-exprs es (t .exprs); steps = stored-steps ps (t .steps) }
 
 -- the n3 entries of GroupBy lines
@@ -34,7 +34,7 @@ abbrev pub aggs-of : ℕ → ℕ → ℕ
 aggs-of kind n3 = if eqb kind 7 then n3 else 0
 
 -- what holds of the bytes, whatever lines they hold
-pub record Sound (es ps : List ℕ) (t : Tally) : Type 0 where
+pub record Sound (es ps : List ℕ) (t : LineCounts) : Type 0 where
   pub exprs : (i : ℕ) → i < t .exprs → Expr-formed es i
   pub steps : (i : ℕ) → i < t .steps → Step-formed ps i
   pub aggs : t .aggs ≡ agg-entries (stored-steps ps (t .steps))
@@ -42,18 +42,18 @@ pub record Sound (es ps : List ℕ) (t : Tally) : Type 0 where
   pub few-steps : t .steps ≤ 32
 
 -- a line was read: es, ps before, es′, ps′ after it; s are the bytes at whose front the line o stands
-pub record Line-taken (o : Option Line) (s es ps es′ ps′ : List ℕ) (t t′ : Tally) (n : ℕ) : Type 0 where
+pub record Line-taken (o : Option Line) (s es ps es′ ps′ : List ℕ) (t t′ : LineCounts) (n : ℕ) : Type 0 where
   pub taken : read-line o (sheet-of es ps t) ≡ done (sheet-of es′ ps′ t′)
   pub sound : Sound es′ ps′ t′
   pub whole : ended s ≡ true
   pub long : n ≡ suc (length (line s))
 
-abbrev pub Line-read : Option Line → List ℕ → List ℕ → List ℕ → List ℕ → List ℕ → Tally → Reading → Type 0
+abbrev pub Line-read : Option Line → List ℕ → List ℕ → List ℕ → List ℕ → List ℕ → LineCounts → Reading → Type 0
 Line-read o s es ps es′ ps′ t (Refused k) = read-line o (sheet-of es ps t) ≡ refused k
 Line-read o s es ps es′ ps′ t (Taken t′ n) = Line-taken o s es ps es′ ps′ t t′ n
 
 -- all lines of s were read
-pub record All-taken (s es ps : List ℕ) (t : Tally) : Type 0 where
+pub record All-taken (s es ps : List ℕ) (t : LineCounts) : Type 0 where
   pub taken : read-lines (parts 10 s) no-lines ≡ done (sheet-of es ps t)
   pub sound : Sound es ps t
 

@@ -6,7 +6,7 @@ use lib.ListN.{getD}
 use Rattle.plan.specs.Lists.{yes?}
 use Rattle.plan.specs.Sheet.{expr-table, step-table}
 use Rattle.reading.specs.declared.tables.Row.{Row}
-use Rattle.reading.specs.declared.tables.Counts.{Counts}
+use Rattle.reading.specs.declared.tables.Range.{Range}
 
 -- E lines ----------------------------------------------------------------------------------------------------------------
 
@@ -27,8 +27,8 @@ expr-numbers-fit k s l a n =
 abbrev pub limits : ℕ → ℕ × ℕ × ℕ × ℕ × ℕ × ℕ × ℕ × ℕ
 limits k = getD step-table k (0, 0, 0, 0, 0, 0, 0, 0)
 
-abbrev pub counts : ℕ → ℕ → Counts
-counts l m = record { least = l; most = m }
+abbrev pub between : ℕ → ℕ → Range
+between l m = record { least = l; most = m }
 
 unfoldable pub most-a : ℕ → ℕ
 most-a k = limits k .0
@@ -39,19 +39,19 @@ most-b k = limits k .1
 unfoldable pub most-c : ℕ → ℕ
 most-c k = limits k .2
 
-unfoldable pub inputs : ℕ → Counts
-inputs k = counts (limits k .3) (limits k .4)
+unfoldable pub inputs : ℕ → Range
+inputs k = between (limits k .3) (limits k .4)
 
-unfoldable pub exprs : ℕ → Counts
-exprs k = counts (limits k .5) (limits k .6)
+unfoldable pub exprs : ℕ → Range
+exprs k = between (limits k .5) (limits k .6)
 
 unfoldable pub most-aggs : ℕ → ℕ
 most-aggs k = limits k .7
 
-abbrev pub within : ℕ → Counts → Bool
+abbrev pub within : ℕ → Range → Bool
 within n c = leb (c .least) n && leb n (c .most)
 
--- kind, options, the three counts and the count of all numbers
+-- kind, options, the three between and the count of all numbers
 unfoldable pub step-numbers-fit : ℕ → ℕ → ℕ → ℕ → ℕ → ℕ → ℕ → ℕ → Bool
 step-numbers-fit k a b c n1 n2 n3 n =
     ltb k 19 && eqb n (7 + n1 + n2 + n3)

@@ -8,7 +8,7 @@ ghost use Rattle.reading.specs.Line.{numbers-of, line-here};
 ghost use Rattle.reading.specs.Lines.{pasted, aggs-of, Sound, Line-read, Lines-read};
 
 // How many E lines, agg entries and P lines were taken.
-pub struct Tally {
+pub struct LineCounts {
     pub exprs: usize,
     pub aggs: usize,
     pub steps: usize,
@@ -16,8 +16,8 @@ pub struct Tally {
 
 // What a line comes to.
 pub enum Reading {
-    // The tally with it, and its length.
-    Taken(Tally, usize),
+    // The counts with it, and its length.
+    Taken(LineCounts, usize),
     Refused(u8),
 }
 
@@ -61,7 +61,7 @@ fn agg_entries(kind: u8, n3: u8) -> usize
 }
 
 // What follows an E line's letter. No E line comes after a P line.
-fn read_expr(s: &[u8], exprs: &mut [u8; 2048], t: Tally) -> Reading
+fn read_expr(s: &[u8], exprs: &mut [u8; 2048], t: LineCounts) -> Reading
     ensures { λ r. ⌜ ((ps : List ℕ) → Sound (now (exprs .entry)) ps t → Line-read (lettered (69 ∷ []) (numbers-of (now (s .entry)))) (69 ∷ now (s .entry)) (now (exprs .entry)) ps (now (exprs .exit)) ps t r) ⌝ }
 {
     let mut v = [0u8; 32];
@@ -83,7 +83,7 @@ fn read_expr(s: &[u8], exprs: &mut [u8; 2048], t: Tally) -> Reading
         return Reading::Refused(5);
     }
     store_expr(exprs, t.exprs, v, count as u8);
-    let next = Tally {
+    let next = LineCounts {
         exprs: t.exprs + 1,
         aggs: t.aggs,
         steps: t.steps,
@@ -92,7 +92,7 @@ fn read_expr(s: &[u8], exprs: &mut [u8; 2048], t: Tally) -> Reading
 }
 
 // What follows a P line's letter.
-fn read_step(s: &[u8], steps: &mut [u8; 1024], t: Tally) -> Reading
+fn read_step(s: &[u8], steps: &mut [u8; 1024], t: LineCounts) -> Reading
     requires { ⌜ (t .exprs + t .aggs ≤ 128) × (t .steps ≤ 32) ⌝ }
     ensures { λ r. ⌜ ((es : List ℕ) → Sound es (now (steps .entry)) t → Line-read (lettered (80 ∷ []) (numbers-of (now (s .entry)))) (80 ∷ now (s .entry)) es (now (steps .entry)) es (now (steps .exit)) t r) ⌝ }
 {
@@ -116,7 +116,7 @@ fn read_step(s: &[u8], steps: &mut [u8; 1024], t: Tally) -> Reading
         return Reading::Refused(5);
     }
     store_step(steps, t.steps, v);
-    let next = Tally {
+    let next = LineCounts {
         exprs: t.exprs,
         aggs,
         steps: t.steps + 1,
@@ -125,7 +125,7 @@ fn read_step(s: &[u8], steps: &mut [u8; 1024], t: Tally) -> Reading
 }
 
 // The line at the front of the bytes.
-fn read_line(s: &[u8], exprs: &mut [u8; 2048], steps: &mut [u8; 1024], t: Tally) -> Reading
+fn read_line(s: &[u8], exprs: &mut [u8; 2048], steps: &mut [u8; 1024], t: LineCounts) -> Reading
     requires { ⌜ (0 < length (now s)) × Sound (now exprs) (now steps) t ⌝ }
     ensures { λ r. ⌜ Line-read (line-here (now (s .entry))) (now (s .entry)) (now (exprs .entry)) (now (steps .entry)) (now (exprs .exit)) (now (steps .exit)) t r ⌝ }
 {
@@ -141,7 +141,7 @@ fn read_line(s: &[u8], exprs: &mut [u8; 2048], steps: &mut [u8; 1024], t: Tally)
 
 // What all lines come to.
 pub enum Lines {
-    Read(Tally),
+    Read(LineCounts),
     Refused(u8),
 }
 
@@ -149,7 +149,7 @@ pub enum Lines {
 pub fn read_lines(sheet: &[u8], exprs: &mut [u8; 2048], steps: &mut [u8; 1024]) -> Lines
     ensures { λ r. ⌜ Lines-read (now (sheet .entry)) (now (exprs .exit)) (now (steps .exit)) r ⌝ }
 {
-    let mut t = Tally {
+    let mut t = LineCounts {
         exprs: 0,
         aggs: 0,
         steps: 0,

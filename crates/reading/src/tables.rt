@@ -13,7 +13,7 @@ pub struct Row {
 }
 
 // The fewest and the most entries of a step's list.
-pub struct Counts {
+pub struct Range {
     pub least: u8,
     pub most: u8,
 }
@@ -236,36 +236,36 @@ pub fn most_c(kind: u8) -> u8
     }
 }
 
-pub fn inputs(kind: u8) -> Counts
+pub fn inputs(kind: u8) -> Range
     ensures { λ r. ⌜ (r ≡ inputs kind) × (r .most ≤ 8) ⌝ }
 {
     match kind {
-        0 => Counts { least: 0, most: 0 },
-        1 => Counts { least: 0, most: 8 },
-        2..=8 => Counts { least: 1, most: 1 },
-        9..=10 => Counts { least: 2, most: 2 },
-        11 => Counts { least: 0, most: 8 },
-        12 => Counts { least: 2, most: 2 },
-        13 => Counts { least: 1, most: 1 },
-        14 => Counts { least: 0, most: 8 },
-        15 => Counts { least: 1, most: 1 },
-        16 => Counts { least: 1, most: 8 },
-        17..=18 => Counts { least: 1, most: 1 },
-        _ => Counts { least: 0, most: 0 },
+        0 => Range { least: 0, most: 0 },
+        1 => Range { least: 0, most: 8 },
+        2..=8 => Range { least: 1, most: 1 },
+        9..=10 => Range { least: 2, most: 2 },
+        11 => Range { least: 0, most: 8 },
+        12 => Range { least: 2, most: 2 },
+        13 => Range { least: 1, most: 1 },
+        14 => Range { least: 0, most: 8 },
+        15 => Range { least: 1, most: 1 },
+        16 => Range { least: 1, most: 8 },
+        17..=18 => Range { least: 1, most: 1 },
+        _ => Range { least: 0, most: 0 },
     }
 }
 
-pub fn exprs(kind: u8) -> Counts
+pub fn exprs(kind: u8) -> Range
     ensures { λ r. ⌜ (r ≡ exprs kind) × (r .most ≤ 8) ⌝ }
 {
     match kind {
-        0..=1 => Counts { least: 0, most: 0 },
-        2..=5 => Counts { least: 0, most: 8 },
-        6 => Counts { least: 1, most: 1 },
-        7 => Counts { least: 0, most: 8 },
-        8 => Counts { least: 0, most: 0 },
-        9 => Counts { least: 0, most: 8 },
-        _ => Counts { least: 0, most: 0 },
+        0..=1 => Range { least: 0, most: 0 },
+        2..=5 => Range { least: 0, most: 8 },
+        6 => Range { least: 1, most: 1 },
+        7 => Range { least: 0, most: 8 },
+        8 => Range { least: 0, most: 0 },
+        9 => Range { least: 0, most: 8 },
+        _ => Range { least: 0, most: 0 },
     }
 }
 
@@ -281,7 +281,7 @@ pub fn most_aggs(kind: u8) -> u8
     }
 }
 
-fn within(n: u8, c: Counts) -> bool
+fn within(n: u8, c: Range) -> bool
     ensures { λ r. ⌜ r ≡ within n c ⌝ }
 {
     if n < c.least {

@@ -14,7 +14,7 @@ use crate::lines::put_tally;
 use plan::answer::Finished;
 
 // How many lines there are of each letter.
-pub struct Counts {
+pub struct BlockCounts {
     pub exprs: usize,
     pub steps: usize,
     pub edges: usize,
@@ -34,7 +34,7 @@ pub fn put_finished(
     consumer: &[u8; 256],
     slot: &[u8; 256],
     unordered: &[bool; 256],
-    n: Counts,
+    n: BlockCounts,
     t: Tallies,
 ) -> Finished
     requires { ⌜ 16384 ≤ length (now out) ⌝ }

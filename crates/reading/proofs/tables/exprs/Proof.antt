@@ -5,7 +5,7 @@ use Prim.Native.Nat.{ℕ, _<_, _≤_, zero-le}
 use native.Mathlib.Omega.{arith}
 use Rattle.plan.specs.Lists.{any?}
 use Rattle.plan.specs.Sheet.{step-table}
-use Rattle.reading.specs.Tables.{exprs, counts}
+use Rattle.reading.specs.Tables.{exprs, between}
 use Rattle.reading.proofs.Spans.{Apart}
 use Rattle.reading.proofs.Rows.{key, counts-range, counts-rest, past-exprs}
 use Rattle.reading.proofs.tables.exprs.Statement.{statement}
@@ -14,31 +14,31 @@ use Rattle.reading.proofs.tables.exprs.Tie as tie
 abbrev keys : List ℕ
 keys = 9 ∷ 8 ∷ 7 ∷ 6 ∷ []
 
-at-6 : counts 1 1 ≡ exprs 6
+at-6 : between 1 1 ≡ exprs 6
 unfolding exprs step-table
 at-6 = refl
 
-at-7 : counts 0 8 ≡ exprs 7
+at-7 : between 0 8 ≡ exprs 7
 unfolding exprs step-table
 at-7 = refl
 
-at-8 : counts 0 0 ≡ exprs 8
+at-8 : between 0 0 ≡ exprs 8
 unfolding exprs step-table
 at-8 = refl
 
-at-9 : counts 0 8 ≡ exprs 9
+at-9 : between 0 8 ≡ exprs 9
 unfolding exprs step-table
 at-9 = refl
 
-to-1 : (k : ℕ) → 0 ≤ k → k < 2 → Apart k keys → counts 0 0 ≡ exprs k
+to-1 : (k : ℕ) → 0 ≤ k → k < 2 → Apart k keys → between 0 0 ≡ exprs k
 unfolding exprs step-table any?
 to-1 = counts-range exprs 0 0 0 2 keys tt
 
-to-5 : (k : ℕ) → 2 ≤ k → k < 6 → Apart k keys → counts 0 8 ≡ exprs k
+to-5 : (k : ℕ) → 2 ≤ k → k < 6 → Apart k keys → between 0 8 ≡ exprs k
 unfolding exprs step-table any?
 to-5 = counts-range exprs 0 8 2 4 keys tt
 
-past : (k : ℕ) → 6 ≤ k → Apart k keys → counts 0 0 ≡ exprs k
+past : (k : ℕ) → 6 ≤ k → Apart k keys → between 0 0 ≡ exprs k
 unfolding exprs step-table any?
 past k h = counts-rest exprs 0 0 6 13 keys tt k (past-exprs k) h
 

@@ -5,7 +5,7 @@ use Prim.Native.Nat.{ℕ, _<_, _≤_, zero-le}
 use native.Mathlib.Omega.{arith}
 use Rattle.plan.specs.Lists.{any?}
 use Rattle.plan.specs.Sheet.{step-table}
-use Rattle.reading.specs.Tables.{inputs, counts}
+use Rattle.reading.specs.Tables.{inputs, between}
 use Rattle.reading.proofs.Spans.{Apart}
 use Rattle.reading.proofs.Rows.{key, counts-range, counts-rest, past-inputs}
 use Rattle.reading.proofs.tables.inputs.Statement.{statement}
@@ -14,51 +14,51 @@ use Rattle.reading.proofs.tables.inputs.Tie as tie
 abbrev keys : List ℕ
 keys = 16 ∷ 15 ∷ 14 ∷ 13 ∷ 12 ∷ 11 ∷ 1 ∷ 0 ∷ []
 
-at-0 : counts 0 0 ≡ inputs 0
+at-0 : between 0 0 ≡ inputs 0
 unfolding inputs step-table
 at-0 = refl
 
-at-1 : counts 0 8 ≡ inputs 1
+at-1 : between 0 8 ≡ inputs 1
 unfolding inputs step-table
 at-1 = refl
 
-at-11 : counts 0 8 ≡ inputs 11
+at-11 : between 0 8 ≡ inputs 11
 unfolding inputs step-table
 at-11 = refl
 
-at-12 : counts 2 2 ≡ inputs 12
+at-12 : between 2 2 ≡ inputs 12
 unfolding inputs step-table
 at-12 = refl
 
-at-13 : counts 1 1 ≡ inputs 13
+at-13 : between 1 1 ≡ inputs 13
 unfolding inputs step-table
 at-13 = refl
 
-at-14 : counts 0 8 ≡ inputs 14
+at-14 : between 0 8 ≡ inputs 14
 unfolding inputs step-table
 at-14 = refl
 
-at-15 : counts 1 1 ≡ inputs 15
+at-15 : between 1 1 ≡ inputs 15
 unfolding inputs step-table
 at-15 = refl
 
-at-16 : counts 1 8 ≡ inputs 16
+at-16 : between 1 8 ≡ inputs 16
 unfolding inputs step-table
 at-16 = refl
 
-to-8 : (k : ℕ) → 0 ≤ k → k < 9 → Apart k keys → counts 1 1 ≡ inputs k
+to-8 : (k : ℕ) → 0 ≤ k → k < 9 → Apart k keys → between 1 1 ≡ inputs k
 unfolding inputs step-table any?
 to-8 = counts-range inputs 1 1 0 9 keys tt
 
-to-10 : (k : ℕ) → 9 ≤ k → k < 11 → Apart k keys → counts 2 2 ≡ inputs k
+to-10 : (k : ℕ) → 9 ≤ k → k < 11 → Apart k keys → between 2 2 ≡ inputs k
 unfolding inputs step-table any?
 to-10 = counts-range inputs 2 2 9 2 keys tt
 
-to-18 : (k : ℕ) → 11 ≤ k → k < 19 → Apart k keys → counts 1 1 ≡ inputs k
+to-18 : (k : ℕ) → 11 ≤ k → k < 19 → Apart k keys → between 1 1 ≡ inputs k
 unfolding inputs step-table any?
 to-18 = counts-range inputs 1 1 11 8 keys tt
 
-past : (k : ℕ) → 19 ≤ k → Apart k keys → counts 0 0 ≡ inputs k
+past : (k : ℕ) → 19 ≤ k → Apart k keys → between 0 0 ≡ inputs k
 unfolding inputs step-table any?
 past k h = counts-rest inputs 0 0 19 0 keys tt k (past-inputs k) h
 
