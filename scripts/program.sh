@@ -32,10 +32,12 @@ program_stands() {
 }
 
 # Was any source changed, added or taken away after the note was made? A folder changes with what it lists; the time is that of
-# the last change of any kind, so that a file which was copied with its old date is seen too.
+# the last change of any kind, so that a file which was copied with its old date is seen too. What programs are tried on (data) and
+# edits that must fail go into no program.
 sources_changed() {
     local first
-    first="$(find "$root/crates" "$root/crates.txt" -cnewer "$note" -print -quit)" || return 0
+    first="$(find "$root/crates" "$root/crates.txt" \( -name data -o -name must-fail \) -prune -o -cnewer "$note" -print -quit)" ||
+        return 0
     [ -n "$first" ]
 }
 
