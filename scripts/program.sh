@@ -26,9 +26,13 @@ note_of() {
     printf '%s\n%s\n' "$root" "$(hash_of "$program")"
 }
 
-# Is the program there, whole, and the one of the last build?
+program_there() {
+    [ -s "$program" ] && [ -x "$program" ]
+}
+
+# Is it the one of the last build, as far as that is noted?
 program_stands() {
-    [ -s "$program" ] && [ -x "$program" ] && { [ ! -f "$note" ] || [ "$(cat "$note")" = "$(note_of)" ]; }
+    program_there && { [ ! -f "$note" ] || [ "$(cat "$note")" = "$(note_of)" ]; }
 }
 
 # Was any source changed, added or taken away after the note was made? A folder changes with what it lists; the time is that of
@@ -43,8 +47,10 @@ sources_changed() {
 
 # Why the program has to be built; nothing if it need not be.
 why_build() {
-    if ! program_stands; then
-        echo 'its program is not there as it was built'
+    if ! program_there; then
+        echo 'its program is not built'
+    elif ! program_stands; then
+        echo 'its program is not the one that was built here'
     elif [ ! -f "$note" ]; then
         echo 'nothing says from which sources its program was built'
     elif sources_changed; then
@@ -61,7 +67,7 @@ build() {
     program_stands || rm -f "$root/target/stamp/$name"
     : > "$note.began"
     (cd "$root" && rt check "$name") < /dev/null > "$log" 2>&1 || fail 'not proved or not built; the log says why'
-    [ -s "$program" ] && [ -x "$program" ] || fail "rt left no program at $program"
+    program_there || fail "rt left no program at $program"
     note_of > "$note.new"
     touch -r "$note.began" "$note.new"
     mv "$note.new" "$note"
