@@ -3,6 +3,9 @@
 #   0 finished, or right    1 wrong    2 refused    3 not read, or the answer could not be written
 #   64 called in another way than the usage says    70 the program could not be built, or ended as no program of ours does
 unset CDPATH
+# Whatever else goes wrong must not end with 1, which is a mark.
+set -E
+trap 'exit 70' ERR
 
 # usage_error TEXT: how the command is used. It comes before anything is built.
 usage_error() {
