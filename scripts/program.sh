@@ -1,3 +1,4 @@
+# shellcheck shell=bash
 # What ./finish, ./mark and ./mark-all share: a program of crates/ that is proved and built from the sources as they stand.
 # To be sourced by bash, with `root` the top of the repository. How they end:
 #   0 finished, or right    1 wrong    2 refused    3 not read, or the answer could not be written
