@@ -27,29 +27,29 @@ enum simplify_ordering_answer {
     SIMPLIFY_ORDERING_USE = 8,               /* a line named too often or by none, or two Cache lines with one id */
     SIMPLIFY_ORDERING_STRUCT_FIELD = 9,      /* a StructField outside the evaluation of every StructEval */
     SIMPLIFY_ORDERING_JOIN = 10,             /* the assertions on a Join's keys fail */
-    SIMPLIFY_ORDERING_PARTITIONED_SINK = 11, /* the assertions on a partitioned Sink's keys fail */
+    SIMPLIFY_ORDERING_PARTITIONED_SINK = 11  /* the assertions on a partitioned Sink's keys fail */
 };
 
 /* Finishes the sheet. For 0, *finished is the length of the finished sheet, which stands at the front of `out`; the bytes
    behind it are as they were. For 1 to 11, *finished is 0 and every byte of `out` is as it was.
    No pointer may be null, not even with a length of 0. `out` and *finished overlap neither each other nor the sheet, and
    nobody else writes to any of the three before the call returns. It keeps no pointer and no state.
-   A chain of 128 expressions takes it between 100 and 104 KiB of stack. */
+   It takes at most 96 KiB of stack. */
 uint8_t simplify_ordering_finish(const uint8_t *sheet, size_t sheet_length, uint8_t *out, size_t out_length,
                                  size_t *finished);
 
 /* What marking answers, besides the number of a refusal: those are never 0 and never 255. */
 enum simplify_ordering_verdict {
     SIMPLIFY_ORDERING_RIGHT = 0,   /* the paper's bytes are the G lines of the finished sheet, each ended by byte 10 */
-    SIMPLIFY_ORDERING_WRONG = 255, /* the sheet is finished, and the paper is anything else */
+    SIMPLIFY_ORDERING_WRONG = 255  /* the sheet is finished, and the paper is anything else */
 };
 
 /* Marks the paper against the sheet. For right and wrong the finished sheet stands at the front of `out`, and the bytes behind
-   it are as they were. For a refusal, with the numbers of simplify_ordering_answer, every byte of `out` is as it was; the paper
-   has no part in it.
+   it are as they were. Its length is not told: it ends with the byte 10 of its T line, the only line that begins with T.
+   For a refusal, with the numbers of simplify_ordering_answer, every byte of `out` is as it was; the paper has no part in it.
    No pointer may be null, not even with a length of 0. The sheet and the paper are only read, and may overlap; `out` overlaps
    neither, and nobody else writes to any of the three before the call returns. It keeps no pointer and no state.
-   A chain of 128 expressions takes it between 100 and 104 KiB of stack. */
+   It takes at most 96 KiB of stack. */
 uint8_t simplify_ordering_mark(const uint8_t *sheet, size_t sheet_length, const uint8_t *paper, size_t paper_length,
                                uint8_t *out, size_t out_length);
 

@@ -2,6 +2,7 @@
 ghost use Prim.Native.Nat.{_≤_};
 ghost use lib.ListN.{length};
 ghost use Rattle.plan.specs.Finished.{answer-length};
+use libc::STDERR_FILENO;
 use libc::STDIN_FILENO;
 use libc::STDOUT_FILENO;
 use plan::answer::Answer;
@@ -28,6 +29,10 @@ fn put_answer(answer: Answer, out: &[u8]) -> bool
 
 // A sheet of more than 16,384 bytes is refused, so one byte more is all that has to be read of it.
 fn main() {
+    if os::arg_count() != 1 {
+        io::write_all(STDERR_FILENO, b"usage: finish < SHEET\n");
+        return;
+    }
     let mut sheet: [u8; 16385] = [0; 16385];
     let input = read_input(STDIN_FILENO, &mut sheet);
     if input.failed {

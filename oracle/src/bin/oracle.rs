@@ -6,7 +6,7 @@ use oracle::run::Stop;
 use oracle::{batch, views};
 
 const HELP: &str = "\
-oracle [--batch] [--out-len N] [--list | --graph] < sheet
+oracle [--batch] [--out-len N] [--unchecked] [--list | --graph] < sheet
 
 Prints the finished sheet, or R,n for a refusal.
 
@@ -14,6 +14,7 @@ Prints the finished sheet, or R,n for a refusal.
              sheet wherever it stands, so a sheet may lack its last byte 10 or be empty. A sheet that holds the mark
              can't be carried. Bytes after the last mark are one more sheet. Each answer is followed by the mark.
 --out-len N  Answers as if the output lent had N bytes; 16384 unless given.
+--unchecked  Leaves out 7, 8 and 9, which the Rust does not check: shows what it makes of such a sheet. It may panic, or not end.
 --list       Prints, for each list of expressions that is looked at, L,visit,step,allow,answer,observed,looks and the
              list's entries, then the E lines as they stand after it. Visits count from 1. allow is 1 if the last
              look may remove sorts at the top. answer and observed add 1 for COLUMN and 2 for INDEPENDENT; observed is
@@ -32,6 +33,7 @@ enum View {
 struct Options {
     batch: bool,
     out_len: usize,
+    unchecked: bool,
     view: View,
 }
 
@@ -60,12 +62,13 @@ fn main() -> ExitCode {
 
 /// The options, or nothing if help is asked for.
 fn options() -> Result<Option<Options>, String> {
-    let mut options = Options { batch: false, out_len: oracle::LEAST_OUTPUT, view: View::Finished };
+    let mut options = Options { batch: false, out_len: oracle::LEAST_OUTPUT, unchecked: false, view: View::Finished };
 
     let mut words = std::env::args().skip(1);
     while let Some(word) = words.next() {
         match word.as_str() {
             "--batch" => options.batch = true,
+            "--unchecked" => options.unchecked = true,
             "--list" => options.view = View::Lists,
             "--graph" => options.view = View::Graph,
             "--out-len" => {
@@ -116,7 +119,8 @@ fn answer(sheet: &[u8], options: &Options, output: &mut impl Write) -> io::Resul
 
 /// What is printed for the sheet, and how the run ended.
 fn text(sheet: &[u8], options: &Options) -> (Vec<u8>, Result<(), Stop>) {
-    let sheet = match oracle::checked(sheet, options.out_len) {
+    let read = if options.unchecked { oracle::unchecked } else { oracle::checked };
+    let sheet = match read(sheet, options.out_len) {
         Ok(sheet) => sheet,
         Err(number) => return (vec![], Err(Stop::Refused(number))),
     };

@@ -9,7 +9,7 @@ const SINK: &str = "P,2,0,0,0,1,0,0,0\n";
 
 /// The Rust's answer to a sheet whose lines are in order, the refusals 7 to 9 left out.
 fn unchecked(sheet: &str) -> Result<String, Stop> {
-    let lines = oracle::reading::read(sheet.as_bytes()).unwrap();
+    let lines = oracle::unchecked(sheet.as_bytes(), oracle::LEAST_OUTPUT).unwrap();
     let finished = oracle::run::run(&lines)?;
     Ok(String::from_utf8(finished.text()).unwrap())
 }
@@ -82,6 +82,20 @@ fn a_line_that_is_not_there_or_a_sink_as_input() {
 }
 
 #[test]
+fn a_reference_that_is_never_followed() {
+    // The keys of a sort that goes at its first visit: no line 200, and a key that names itself.
+    let keys = |key| format!("{SCAN}P,5,0,0,0,1,1,0,0,{key}\nP,2,0,0,0,1,0,0,1\n");
+    taken_by_the_rust(7, &keys(200), "G,2,0,0\nG,1,0,0\nT,1,5,0\n");
+    taken_by_the_rust(7, &format!("E,7,0,1,0,0\n{}", keys(0)), "G,2,0,0\nG,1,0,0\nT,1,5,0\n");
+    // A step that no Sink leads to: over a line that is not there, over itself, over a Sink.
+    for input in [200, 2, 1] {
+        taken_by_the_rust(7, &format!("{SCAN}{SINK}P,15,0,0,0,1,0,0,{input}\n"), "G,1,0,0\nT,0,4,0\n");
+    }
+    // An expression that no step names.
+    taken_by_the_rust(7, &format!("E,7,0,1,0,0\n{SCAN}{SINK}"), "G,1,0,0\nT,0,4,0\n");
+}
+
+#[test]
 fn lines_named_by_none() {
     taken_by_the_rust(8, &format!("E,0,0,1,0\n{SCAN}{SINK}"), "G,1,0,0\nT,0,4,0\n");
     taken_by_the_rust(8, &format!("{SCAN}{SCAN}P,2,0,0,0,1,0,0,1\n"), "G,2,0,0\nT,0,4,0\n");
@@ -95,12 +109,19 @@ fn lines_named_twice() {
     taken_by_the_rust(8, &sheet, "T,0,6,4\n");
     let sheet = format!("E,0,0,1,0\n{SCAN}P,3,0,0,0,1,1,0,0,0\nP,3,0,0,0,1,1,0,1,0\nP,2,0,0,0,1,0,0,2\n");
     taken_by_the_rust(8, &sheet, "T,0,8,8\n");
-    taken_by_the_rust(8, &format!("P,14,0,0,0,0,0,0\n{SINK}{SINK}"), "G,1,0,0\nG,2,0,0\nT,0,8,0\n");
+    for kind in [1, 14] {
+        taken_by_the_rust(8, &format!("P,{kind},0,0,0,0,0,0\n{SINK}{SINK}"), "G,1,0,0\nG,2,0,0\nT,0,8,0\n");
+    }
+    let sheet = format!("{SCAN}P,9,0,0,0,2,0,0,0,0\nP,2,0,0,0,1,0,0,1\n");
+    taken_by_the_rust(8, &sheet, "G,2,0,0\nG,1,0,0\nG,1,1,0\nT,0,8,0\n");
     // A step with an input panics instead, as does a Union without one.
     let sheet = format!("{SCAN}P,15,0,0,0,1,0,0,0\nP,2,0,0,0,1,0,0,1\nP,2,0,0,0,1,0,0,1\n");
     a_panic_in_the_rust(8, &sheet, "current_edges.in_edges.is_empty()");
     let sheet = format!("P,11,0,0,0,0,0,0\n{SINK}{SINK}");
     a_panic_in_the_rust(8, &sheet, "left == right");
+    // Not so if no Sink leads to one of the two that name it.
+    let sheet = format!("{SCAN}P,15,0,0,0,1,0,0,0\nP,2,0,0,0,1,0,0,1\nP,15,0,0,0,1,0,0,1\n");
+    taken_by_the_rust(8, &sheet, "G,2,0,0\nG,1,0,1\nT,0,6,0\n");
 }
 
 #[test]
@@ -133,6 +154,13 @@ fn a_struct_field_outside() {
     let keys = format!("E,3,0,1,0\n{SCAN}P,5,0,0,0,1,1,0,0,0\nP,2,0,0,0,1,0,0,1\n");
     taken_by_the_rust(9, &keys, "G,2,0,0\nG,1,0,0\nT,1,5,0\n");
     a_panic_in_the_rust(9, &keys.replace("P,2,0", "P,2,1"), "`Option::unwrap()` on a `None`");
+
+    // Never looked at, since what it sorts takes the place of the SortBy at its first look, here under Min.
+    let exprs = "E,0,0,1,0\nE,3,0,1,0\nE,10,0,1,0,0,1\nE,22,1,0,0,2\n";
+    let by = format!("{exprs}{SCAN}P,3,0,0,0,1,1,0,0,3\nP,2,0,0,0,1,0,0,1\n");
+    taken_by_the_rust(9, &by, "G,2,0,0\nG,1,0,0\nT,0,6,5\n");
+    // Under First the SortBy stays, and its `by` is looked at.
+    a_panic_in_the_rust(9, &by.replace("E,22", "E,21"), "`Option::unwrap()` on a `None`");
 }
 
 #[test]
