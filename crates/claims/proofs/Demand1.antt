@@ -1,13 +1,12 @@
 -- Demand 1: a finished sheet, or a number of the list under its condition, for every sequence of bytes and every output lent.
 use mathlib.Core.Path.{_≡_, refl, ap, sym, _∙_}
 use mathlib.Core.Logic.{_⊎_, inl, inr}
-use Prim.Native.Nat.{ℕ, _≤_, _<_}
+use Prim.Native.Nat.{ℕ, _≤_, _<_, _+_}
 use native.Mathlib.Omega.{arith}
 use native.Mathlib.Nat.{not-suc-le-zero}
-use native.Mathlib.Decide.{decLt}
 use mathlib.Core.Bool.{Bool, true, false, _&&_, not}
 use mathlib.Core.List.{List, [], _∷_, List·Memᴰ, List·Memᴰ·head}
-use lib.Dec.{T, leb, leb→le, nltb→le}
+use lib.Dec.{T, eqb, leb, leb→le, nltb→le}
 use lib.ListN.{length, length-append, length-drop}
 use Rattle.plan.specs.declared.answer.Answer.{Answer}
 use Rattle.plan.specs.declared.ir.IR.{IR}
@@ -15,9 +14,9 @@ use Rattle.plan.specs.Kinds.{same-ir}
 use Rattle.plan.specs.Lists.{if_then_else_, all?, sum, times, empty?}
 use Rattle.plan.specs.Sheet.{Step, no-step, step-at, in-step-table, Sheet, Outcome, refused, done, _then_, refuse_when_else_, read}
 use Rattle.plan.specs.Faults.{named, checked}
-use Rattle.plan.specs.Graph.{graph, sinks}
+use Rattle.plan.specs.Graph.{graph, sinks, is-cache}
 use Rattle.plan.specs.Visit.{Run}
-use Rattle.plan.specs.Walks.{begin, down, up, simplify-and-fetch-orderings}
+use Rattle.plan.specs.Walks.{begin, down, up, updated, simplify-and-fetch-orderings}
 use Rattle.plan.specs.Text.{printed}
 use Rattle.plan.specs.Finished.{run, finished, Called, finish, called, too-short, answer-number}
 use Rattle.plan.specs.Conditions.{refusal-numbers, Turned-back}
@@ -30,22 +29,29 @@ use Rattle.claims.specs.WellFormed.{Accepted, WellFormed}
 use Rattle.claims.specs.Demand1.{Finished-call, Refused-call, Demand-1}
 use Rattle.claims.proofs.Taken.{well-formed}
 use Rattle.claims.proofs.Visits.{walked, places-counted}
-use Rattle.claims.proofs.StepTable.{sink-has-one-input}
-use Rattle.claims.proofs.Plans.{Plan, plan-of}
+use Rattle.plan.proofs.Counts.{false-of}
+use Rattle.claims.proofs.StepTable.{sink-has-one-input, cache-has-one-input}
+use Rattle.claims.proofs.Plans.{sinks-count, input-right}
+use Rattle.claims.proofs.Keys.{key-other}
+use Rattle.claims.proofs.Merged.{merged, sinks-merged}
+use Rattle.claims.proofs.MergedPlan.{keyed-of}
+use Rattle.claims.proofs.Ends.{ends}
 use Rattle.claims.proofs.Sizes.{length-places}
 use Rattle.claims.proofs.WithinLimits.{within-limits}
 
 -- Every finished sheet has a G line: the first step is no Sink, since a Sink has an earlier input; so it is named ---------------------------
 
-some-naming : (sh : Sheet) → WellFormed sh → 1 ≤ length (named (sh .steps))
+some-naming : (sh : Sheet) → WellFormed sh → 1 ≤ length (named (merged (sh .steps)))
 unfolding sum
-some-naming sh w = by (decLt 0 (length (named (sh .steps))))
+some-naming sh w =
+    let no-sink = not-one (same-ir (step-at ps 0 .kind) IR.Sink) (λ e. sink-has-one-input (step-at ps 0) (same-kind (step-at ps 0 .kind) IR.Sink e) row) in
+    let no-cache = not-one (is-cache ps 0) (λ e. cache-has-one-input (step-at ps 0) (same-kind (step-at ps 0 .kind) IR.Cache e) row) in
+    let none : times 0 (sinks ps) ≡ 0 = sinks-count ps 0 ∙ ap (λ (b : Bool). if b then 1 else 0) (false-of (same-ir (step-at ps 0 .kind) IR.Sink) no-sink) in
+    let own = key-other ps 0 (false-of (is-cache ps 0) no-cache) in
+    omega (arith, keyed-of sh w .rooted 0 first own, ap (times 0) (sinks-merged ps), none, few (named (merged ps)))
   where
     ps : List Step
     ps = sh .steps
-
-    plan : Plan ps
-    plan = plan-of sh w
 
     first : 0 < length ps
     first = there ps (w .has-plan)
@@ -54,38 +60,38 @@ some-naming sh w = by (decLt 0 (length (named (sh .steps))))
         there [] t = absurd t
         there (x ∷ l) t = omega arith
 
+    row : T (in-step-table (step-at ps 0))
+    row = all-at in-step-table ps no-step (w .steps-in-table) 0 first
+
     no-input : (l : List ℕ) → length l ≡ 1 → ((m : ℕ) → List·Memᴰ m l → m < 0) → ⊥
     no-input [] e f = omega (arith, e)
     no-input (m ∷ l) e f = not-suc-le-zero (f m (List·Memᴰ·head refl))
 
-    is-sink : (b : Bool) → times 0 (sinks ps) ≡ (if b then 1 else 0) → 1 ≤ times 0 (sinks ps) → T b
-    is-sink true e h = tt
-    is-sink false e h = absurd (omega (arith, e))
+    not-one : (b : Bool) → (T b → length (step-at ps 0 .inputs) ≡ 1) → ¬ T b
+    not-one b f t = no-input (step-at ps 0 .inputs) (f t) (λ m i. input-right sh w 0 m i .1)
 
-    none : (l : List ℕ) → length l ≤ 0 → times 0 l ≡ 0
-    none [] h = refl
-    none (x ∷ l) h = absurd (omega arith)
-
-    by : Dec (0 < length (named ps)) → 1 ≤ length (named ps)
-    by (yes h) = h
-    by (no h) =
-        let root = is-sink (same-ir (step-at ps 0 .kind) IR.Sink) (plan .roots 0) (omega (arith, plan .rooted 0 first, none (named ps) (omega arith))) in
-        let one = sink-has-one-input (step-at ps 0) (same-kind (step-at ps 0 .kind) IR.Sink root) (all-at in-step-table ps no-step (w .steps-in-table) 0 first) in
-        absurd (no-input (step-at ps 0 .inputs) one (plan .earlier 0))
+    few : (l : List ℕ) → times 0 l ≤ length l
+    few [] = omega arith
+    few (x ∷ l) = by (eqb 0 x) (few l)
+      where
+        by : (b : Bool) → times 0 l ≤ length l → (if b then 1 else 0) + times 0 l ≤ length (x ∷ l)
+        by true h = omega arith
+        by false h = omega arith
 
 some-edge : (s : List ℕ) (r : Run) → run s ≡ done r → 1 ≤ length (r .edges)
-unfolding run simplify-and-fetch-orderings down up begin
+unfolding run down up begin updated
 some-edge s r e =
     let (sh, accepted, walks) = both-done (read s then checked) simplify-and-fetch-orderings e in
-    let (half, d, u) = both-done (down sh) up walks in
+    let x = ends sh r walks in
     let w = well-formed s sh accepted in
     omega (
+      ap (λ (q : Run). length (q .edges)) (x .updates),
       arith,
       some-naming sh w,
       length-places sh w,
       places-counted (sh .steps),
-      walked (graph (sh .steps) .0) (begin sh) d .edges,
-      walked (half .back) half u .edges,
+      walked (graph (sh .steps) .0) (begin sh) (x .down-ends) .edges,
+      walked (x .half .back) (x .half) (x .up-ends) .edges,
     )
 
 opened : (s : List ℕ) {r : Run} → run s ≡ done r → (read s then checked then simplify-and-fetch-orderings) ≡ done r

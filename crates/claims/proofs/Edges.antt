@@ -7,14 +7,14 @@ use native.Mathlib.Nat.{not-suc-le-zero}
 use native.Mathlib.Decide.{decLt}
 use mathlib.Core.Bool.{Bool, true, false, _&&_, _||_}
 use mathlib.Core.Option.{Option, none, some}
-use mathlib.Core.List.{List, [], _∷_, map, List·Memᴰ}
+use mathlib.Core.List.{List, [], _∷_, map, List·Memᴰ, List·Memᴰ·head, List·Memᴰ·tail}
 use lib.Dec.{T, eqb, eqb→eq, eqb-refl}
 use lib.ListN.{length, getD, List·getD-eq-default}
 use Rattle.plan.specs.Lists.{if_then_else_, select, sum}
-use Rattle.plan.specs.Sheet.{done, step-at}
+use Rattle.plan.specs.Sheet.{done}
 use Rattle.plan.specs.Graph.{Edge}
 use Rattle.plan.specs.declared.rules.Loosened.{Loosened}
-use Rattle.plan.specs.Visit.{Run, simplify-ir-node-orders, unlink-node, settled, ruling, loosened, relinked, is-into, is-out-of, no-edge, out-edge}
+use Rattle.plan.specs.Visit.{Run, simplify-ir-node-orders, unlink-node, settled, ruling, loosened, relinked, is-into, is-out-of, no-edge, out-edge, in-edge}
 use Rattle.plan.specs.Walks.{walk}
 use Rattle.claims.specs.Demand3.{leaving-among, Unordered-at}
 use Rattle.claims.proofs.Walks.{two-ways, walk-keeps}
@@ -86,19 +86,30 @@ out-edge-there n ds h =
     let k = leaving-there n ds h in
     subst (λ (d : Edge). List·Memᴰ d ds × T (is-out-of n d)) (out-edge-at n ds) (mem-at ds (leaving-among n ds) no-edge k, leaving-out n ds k)
 
+pub in-edge-there : (n : ℕ) (ds : List Edge) → 1 ≤ intos n ds → List·Memᴰ (in-edge n ds) ds × T (is-into n (in-edge n ds))
+unfolding in-edge select sum
+in-edge-there n [] h = absurd (not-suc-le-zero h)
+in-edge-there n (d ∷ ds) h = by (is-into n d) refl h (λ k. in-edge-there n ds k)
+  where
+    by : (b : Bool) → is-into n d ≡ b → 1 ≤ (if b then 1 else 0) + intos n ds
+        → (1 ≤ intos n ds → List·Memᴰ (getD (select (is-into n) ds) 0 no-edge) ds × T (is-into n (getD (select (is-into n) ds) 0 no-edge)))
+        → let x = getD (if b then d ∷ select (is-into n) ds else select (is-into n) ds) 0 no-edge in List·Memᴰ x (d ∷ ds) × T (is-into n x)
+    by true e h rec = (List·Memᴰ·head refl, T-of (is-into n d) e)
+    by false e h rec = let (m, t) = rec (omega arith) in (List·Memᴰ·tail m, t)
+
 -- Relinking: an edge into the removed sort, the edge that left it, and any other --------------------------------------------------
 
 abbrev pub cut : Edge → Edge
 cut d = record { consumer = d .consumer; slot = d .slot; producer = none; unordered = true }
 
-abbrev pub led : ℕ → Edge → Edge
-led input d = record { consumer = d .consumer; slot = d .slot; producer = some input; unordered = d .unordered }
+abbrev pub led : Option ℕ → Edge → Edge
+led from d = record { consumer = d .consumer; slot = d .slot; producer = from; unordered = d .unordered }
 
-pub three-ways : (n input : ℕ) (Q : Edge → Type 0) (d : Edge) → (T (is-into n d) → Q (cut d)) → (is-into n d ≡ false → T (is-out-of n d) → Q (led input d))
-    → (is-into n d ≡ false → is-out-of n d ≡ false → Q d) → Q (relinked n input d)
-three-ways n input Q d f g h = by (is-into n d) (is-out-of n d) refl refl
+pub three-ways : (n : ℕ) (from : Option ℕ) (Q : Edge → Type 0) (d : Edge) → (T (is-into n d) → Q (cut d)) → (is-into n d ≡ false → T (is-out-of n d) → Q (led from d))
+    → (is-into n d ≡ false → is-out-of n d ≡ false → Q d) → Q (relinked n from d)
+three-ways n from Q d f g h = by (is-into n d) (is-out-of n d) refl refl
   where
-    by : (b c : Bool) → is-into n d ≡ b → is-out-of n d ≡ c → Q (if b then cut d else if c then led input d else d)
+    by : (b c : Bool) → is-into n d ≡ b → is-out-of n d ≡ c → Q (if b then cut d else if c then led from d else d)
     by true c i j = f (T-of (is-into n d) i)
     by false true i j = g i (T-of (is-out-of n d) j)
     by false false i j = h i j
@@ -112,11 +123,11 @@ at-map f (d ∷ l) (suc k) h = at-map f l k (omega arith)
 
 -- the edge is relinked, or loosened
 pub visit-edge : (Q : Edge → Type 0) (n : ℕ) (r : Run) {r′ : Run} → simplify-ir-node-orders n r ≡ done r′ → (k : ℕ) → k < length (r .edges)
-    → ((input : ℕ) → Q (relinked n input (edge-at k r))) → ((l : Loosened) → Q (loosened n l (edge-at k r))) → Q (edge-at k r′)
+    → ((from : Option ℕ) → Q (relinked n from (edge-at k r))) → ((l : Loosened) → Q (loosened n l (edge-at k r))) → Q (edge-at k r′)
 unfolding unlink-node settled
 visit-edge Q n r e k h f g =
     elim (two-ways n r e) [
-      | inl w ↦ subst (λ (q : Run). Q (edge-at k q)) (sym (w .1)) (rw at-map (f (getD (step-at (r .steps) n .inputs) 0 0)))
+      | inl w ↦ subst (λ (q : Run). Q (edge-at k q)) (sym (w .1)) (rw at-map (f (in-edge n (r .edges) .producer)))
       | inr w ↦ subst (λ (q : Run). Q (edge-at k q)) (sym (w .1)) (rw at-map (g (ruling n r .loosened)))
     ]
 

@@ -10,10 +10,12 @@ use lib.ListN.{length, length-append}
 use Rattle.plan.specs.Lists.{if_then_else_, sum, concat-map, among}
 use Rattle.plan.specs.Sheet.{Expr, Step, expr-at, step-at}
 use Rattle.plan.specs.Faults.{reach, named}
-use Rattle.plan.specs.Graph.{Edge, is-cache, most-places, sinks, pushes, pop, popped, opens, following, edges-into, grow}
+use Rattle.plan.specs.Graph.{Edge, is-cache, most-places, sinks}
 use Rattle.claims.specs.Limits.{Children-earlier}
 use Rattle.plan.proofs.Counts.{sum-ones, mem-reverse}
-use Rattle.claims.proofs.Plans.{Plan, input-there}
+use Rattle.claims.proofs.ByLine.{pushes, pop, popped, opens, following, edges-into, grow}
+use Rattle.claims.specs.Plan.{Plan}
+use Rattle.claims.proofs.Plans.{input-there}
 use Rattle.claims.proofs.Reached.{followed, followed-le}
 use Rattle.claims.proofs.Hits as hits
 use Rattle.claims.proofs.Places as places

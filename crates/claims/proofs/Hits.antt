@@ -1,5 +1,5 @@
 -- The first pass pops every root and every naming, so that a cache is met as often as it is named.
-use mathlib.Core.Path.{_≡_, refl, sym, subst}
+use mathlib.Core.Path.{_≡_, refl}
 use mathlib.Core.Logic.{inl, inr, _≢_}
 use Prim.Native.Nat.{ℕ, zero, suc, _+_, _≤_, _<_}
 use native.Mathlib.Omega.{arith}
@@ -8,17 +8,16 @@ use mathlib.Core.Bool.{Bool, true, false, _&&_, _||_, not}
 use mathlib.Core.List.{List, [], _∷_, _++_, reverse, List·Memᴰ, List·Memᴰ·head, List·Memᴰ·tail, List·Memᴰ·not-nil, List·Memᴰ·append-cases}
 use lib.Dec.{T, eqb}
 use lib.ListN.{length, length-append}
-use Rattle.plan.specs.declared.ir.IR.{IR}
-use Rattle.plan.specs.Kinds.{same-ir}
 use Rattle.plan.specs.Lists.{if_then_else_, any?, sum, among, times}
-use Rattle.plan.specs.Sheet.{Step, Sheet, step-at}
+use Rattle.plan.specs.Sheet.{Step, step-at}
 use Rattle.plan.specs.Faults.{named}
-use Rattle.plan.specs.Graph.{sinks, is-cache, most-places, pushes, pop, popped, hits}
+use Rattle.plan.specs.Graph.{sinks, is-cache, most-places}
 use Rattle.plan.proofs.ListLaws.{sum-append}
-use Rattle.claims.specs.WellFormed.{WellFormed}
 use Rattle.plan.proofs.Booleans.{T-eq}
-use Rattle.plan.proofs.Counts.{true-of, among-times, times-among, sum-reverse, sum-ones, times-other, times-same, mem-reverse, only}
-use Rattle.claims.proofs.Plans.{Plan, plan-of, root-there, input-there, cache-named}
+use Rattle.plan.proofs.Counts.{true-of, sum-reverse, sum-ones, times-other, times-same, mem-reverse, only, among-times, times-among}
+use Rattle.claims.proofs.ByLine.{pushes, pop, popped, hits}
+use Rattle.claims.specs.Plan.{Plan}
+use Rattle.claims.proofs.Plans.{root-there, input-there, cache-named}
 use Rattle.claims.proofs.Reached.{followed, followed-le, followed-none, followed-next, all-placed}
 
 -- The pass ----------------------------------------------------------------------------------------------------------------------
@@ -94,7 +93,7 @@ module _ (ps : List Step) (plan : Plan ps) where
   unfolding popped sum any?
   popped-all =
       all-placed ps plan (popped ps) (λ n. among n (popped ps)) (λ w. omega (arith, end w, none w))
-      (λ n l e. times-among n (popped ps) (omega (arith, plan .rooted n l)))
+      (λ n l e. elim (plan .rooted n l) [ inl h ↦ inl (times-among n (popped ps) (omega arith)) | inr i ↦ inr i ])
     where
       none : (w : ℕ → ℕ) → sum w [] ≡ 0
       none w = refl
@@ -108,7 +107,3 @@ module _ (ps : List Step) (plan : Plan ps) where
   -- A cache is met as often as it is named
   pub hits-named : (n : ℕ) → T (is-cache ps n) → hits (popped ps) n ≡ times n (named ps)
   hits-named n t = omega (arith, popped-all (only n), cache-named ps plan n t)
-
--- so of every well-formed sheet
-pub met-as-named : (sh : Sheet) → WellFormed sh → (n : ℕ) → step-at (sh .steps) n .kind ≡ IR.Cache → hits (popped (sh .steps)) n ≡ times n (named (sh .steps))
-met-as-named sh w n e = hits-named (sh .steps) (plan-of sh w) n (subst (λ (k : IR). T (same-ir k IR.Cache)) (sym e) tt)

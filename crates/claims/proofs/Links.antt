@@ -1,26 +1,24 @@
 -- What the downward walk keeps of the links between sorts and edges.
 use mathlib.Core.Path.{_≡_, refl, ap, sym, _∙_, subst}
 use mathlib.Core.Logic.{inl, inr, _≢_}
-use Prim.Native.Nat.{ℕ, _+_, _≤_, _<_}
+use Prim.Native.Nat.{ℕ, _+_, _≤_}
 use native.Mathlib.Omega.{arith}
 use native.Mathlib.Decide.{ℕ-discrete}
 use mathlib.Core.Bool.{Bool, true, false, _&&_}
 use mathlib.Core.List.{List, [], _∷_, map, List·Memᴰ, List·Memᴰ·head, List·Memᴰ·tail}
-use mathlib.Core.Option.{some}
+use mathlib.Core.Option.{Option, some}
 use lib.Dec.{T, eqb, eqb→eq, eqb-refl}
-use lib.ListN.{length, getD, set, length-map, length-set}
-use lib.Seq.{getD-set-same, getD-set-other}
+use lib.ListN.{getD, length-map}
 use Rattle.plan.specs.declared.ir.IR.{IR}
 use Rattle.plan.specs.Lists.{if_then_else_, sum, times}
-use Rattle.plan.specs.Sheet.{Step, done, no-step, step-at}
+use Rattle.plan.specs.Sheet.{Step, done, step-at}
 use Rattle.plan.specs.Graph.{Edge}
-use Rattle.plan.specs.Visit.{Run, simplify-ir-node-orders, goes, unlink-node, settled, ruling, ruled-step, loosened, relinked, is-into, is-out-of, no-edge, with-input, out-edge}
+use Rattle.plan.specs.Visit.{Run, simplify-ir-node-orders, goes, unlink-node, settled, ruling, ruled-step, loosened, relinked, is-into, is-out-of, no-edge, out-edge, in-edge}
 use Rattle.claims.specs.Demand3.{leaving}
 use Rattle.plan.proofs.Booleans.{differ, equal}
 use Rattle.plan.proofs.Counts.{true-of, T-of, not-both, of-map, mem-at, some-counted, only-one, count-map, count-same, count-none, count-balance, times-same, times-other, times-of}
-use Rattle.claims.proofs.StepTable.{has-inputs}
 use Rattle.claims.proofs.Walks.{two-ways}
-use Rattle.claims.proofs.Edges.{edge-at, outs, intos, producer-of, is-producer, other-producer, out-edge-at, leaving-there, leaving-out, out-edge-there, cut, three-ways, at-map}
+use Rattle.claims.proofs.Edges.{edge-at, outs, intos, producer-of, is-producer, other-producer, out-edge-at, leaving-there, leaving-out, out-edge-there, in-edge-there, cut, three-ways, at-map}
 use Rattle.claims.proofs.Stays.{unsliced-sort, sort-kind, ruling-sort, sort-holds-out, sorts-kept, goes-sort, stays-ordered, Held, Kept, kept-part, kept-visit}
 
 -- The links ---------------------------------------------------------------------------------------------------------------
@@ -35,15 +33,15 @@ clear-absent c n [] h = tt
 clear-absent c n (x ∷ l) h =
     (λ e. ((λ i. h (List·Memᴰ·head (sym i))), λ m. h (List·Memᴰ·tail m)), clear-absent c n l (λ m. h (List·Memᴰ·tail m)))
 
--- an edge into n comes from n's first input
-abbrev pub From-input : ℕ → List ℕ → Edge → Type 0
-From-input n inputs d = d .consumer ≡ n → (d .slot ≡ 0) × (d .producer ≡ some (getD inputs 0 0))
+-- an edge into n: of its first slot, from that step
+abbrev pub Comes-from : ℕ → ℕ → Edge → Type 0
+Comes-from n from d = d .consumer ≡ n → (d .slot ≡ 0) × (d .producer ≡ some from)
 
 -- one edge comes into the sort n
-pub record One-in (n : ℕ) (inputs : List ℕ) (es : List Edge) : Type 0 where
+pub record One-in (n : ℕ) (es : List Edge) : Type 0 where
+  pub from : ℕ
   pub one : intos n es ≡ 1
-  pub reads : 1 ≤ length inputs
-  pub linked : (d : Edge) → List·Memᴰ d es → From-input n inputs d
+  pub linked : (d : Edge) → List·Memᴰ d es → Comes-from n from d
 
 -- ps the steps of the sheet, r the run with `rest` still to be visited on the way down
 pub record Linked (ps : List Step) (rest : List ℕ) (r : Run) : Type 0 where
@@ -51,43 +49,38 @@ pub record Linked (ps : List Step) (rest : List ℕ) (r : Run) : Type 0 where
   -- of a sort: it has one place at most, an edge leaves it just as long as it is there, and one comes into it
   pub once : (n : ℕ) → step-at ps n .kind ≡ IR.Sort → times n (r .back) + times n rest ≤ 1
   pub leaves : (n : ℕ) → step-at ps n .kind ≡ IR.Sort → outs n (r .edges) ≡ times n (r .back) + times n rest
-  pub enters : (n : ℕ) → step-at ps n .kind ≡ IR.Sort → List·Memᴰ n rest → One-in n (step-at (r .steps) n .inputs) (r .edges)
+  pub enters : (n : ℕ) → step-at ps n .kind ≡ IR.Sort → List·Memᴰ n rest → One-in n (r .edges)
   -- the consumer of an edge out of it has no place from its own on
   pub clear : (n : ℕ) → step-at ps n .kind ≡ IR.Sort → (d : Edge) → List·Memᴰ d (r .edges) → d .producer ≡ some n → Clear (d .consumer) n rest
   pub kept : Kept ps (r .back) rest (r .edges)
 
-input-anew : (ps : List Step) (c n slot input : ℕ) → n ≡ c → slot ≡ 0 → n < length ps
-    → step-at (set ps c (with-input slot input (step-at ps c))) n .inputs ≡ set (step-at ps n .inputs) 0 input
-input-anew ps c n slot input i j h =
-    rw (i, j) (ap (λ (s : Step). s .inputs) (getD-set-same ps c (with-input 0 input (step-at ps c)) no-step (omega arith)))
-
 -- Relinking -----------------------------------------------------------------------------------------------------------------
 
 module _ (n input : ℕ) where
-  relinked-into : (k : ℕ) (d : Edge) → is-into k (relinked n input d) ≡ is-into k d
-  relinked-into k d = three-ways n input (λ (x : Edge). is-into k x ≡ is-into k d) d (λ t. refl) (λ i t. refl) (λ i j. refl)
+  relinked-into : (k : ℕ) (d : Edge) → is-into k (relinked n (some input) d) ≡ is-into k d
+  relinked-into k d = three-ways n (some input) (λ (x : Edge). is-into k x ≡ is-into k d) d (λ t. refl) (λ i t. refl) (λ i j. refl)
 
   module _ (other : input ≢ n) (d : Edge) where
-    relinked-out : is-out-of n (relinked n input d) ≡ false
-    relinked-out = three-ways n input (λ (x : Edge). is-out-of n x ≡ false) d (λ t. refl) (λ i t. differ input n other) (λ i j. j)
+    relinked-out : is-out-of n (relinked n (some input) d) ≡ false
+    relinked-out = three-ways n (some input) (λ (x : Edge). is-out-of n x ≡ false) d (λ t. refl) (λ i t. differ input n other) (λ i j. j)
 
     module _ (from : d .consumer ≡ n → d .producer ≡ some input) where
       from-input : T (is-into n d) → d .producer ≡ some input
       from-input t = from (eqb→eq (d .consumer) n t)
 
       -- the edges out of a third step
-      relinked-elsewhere : (k : ℕ) → k ≢ n → k ≢ input → is-out-of k (relinked n input d) ≡ is-out-of k d
+      relinked-elsewhere : (k : ℕ) → k ≢ n → k ≢ input → is-out-of k (relinked n (some input) d) ≡ is-out-of k d
       relinked-elsewhere k h l =
-          three-ways n input (λ (x : Edge). is-out-of k x ≡ is-out-of k d) d
+          three-ways n (some input) (λ (x : Edge). is-out-of k x ≡ is-out-of k d) d
           (λ t. sym (other-producer k input d (from-input t) (λ e. l (sym e))))
           (λ i t. differ input k (λ e. l (sym e)) ∙ sym (other-producer k n d (producer-of n d t) (λ e. h (sym e))))
           (λ i j. refl)
 
       -- out of the input: the edge into n goes, the edge out of n comes
-      relinked-input : (if is-out-of input (relinked n input d) then 1 else 0) + (if is-into n d then 1 else 0)
+      relinked-input : (if is-out-of input (relinked n (some input) d) then 1 else 0) + (if is-into n d then 1 else 0)
           ≡ (if is-out-of input d then 1 else 0) + (if is-out-of n d then 1 else 0)
       relinked-input =
-          three-ways n input
+          three-ways n (some input)
           (λ (x : Edge). (if is-out-of input x then 1 else 0) + (if is-into n d then 1 else 0)
           ≡ (if is-out-of input d then 1 else 0) + (if is-out-of n d then 1 else 0)) d
           (λ t. rw (true-of (is-into n d) t, true-of (is-out-of input d) (is-producer input d (from-input t)), other-producer n input d (from-input t) other))
@@ -157,12 +150,11 @@ module _ (ps : List Step) (n : ℕ) (rest : List ℕ) (r : Run) (g : Linked ps (
       enters =
           λ k t m.
           let h = g .enters k t (List·Memᴰ·tail m) in
-          let apart : k ≢ n = λ j. not-later (subst (λ y. step-at ps y .kind ≡ IR.Sort) j t) (subst (λ y. List·Memᴰ y rest) j m) in
-          rw getD-set-other (record {
+          record {
+            from = h .from;
             one = count-map (is-into k) looser (r .edges) ∙ h .one;
-            reads = h .reads;
-            linked = of-map (From-input k (step-at (r .steps) k .inputs)) looser (r .edges) (h .linked);
-          });
+            linked = of-map (Comes-from k (h .from)) looser (r .edges) (h .linked);
+          };
       clear = λ k t. of-map (λ (d : Edge). d .producer ≡ some k → Clear (d .consumer) k rest) looser (r .edges) (λ d m p. g .clear k t d m p .1);
       kept = (held-now, kept-visit ps (r .back) (n ∷ rest) n r e (List·Memᴰ·head refl) (g .kept));
     }
@@ -170,17 +162,21 @@ module _ (ps : List Step) (n : ℕ) (rest : List ℕ) (r : Run) (g : Linked ps (
   -- A visit that removes --------------------------------------------------------------------------------------------------
 
   module _ (t : step-at ps n .kind ≡ IR.Sort) (e : simplify-ir-node-orders n r ≡ done (unlink-node n r)) where
+    one-in : One-in n (r .edges)
+    one-in = g .enters n t (List·Memᴰ·head refl)
+
     abbrev input : ℕ
-    input = getD (step-at (r .steps) n .inputs) 0 0
+    input = one-in .from
 
     abbrev out : Edge
     out = out-edge n (r .edges)
 
     abbrev relink : Edge → Edge
-    relink = relinked n input
+    relink = relinked n (some input)
 
-    one-in : One-in n (step-at (r .steps) n .inputs) (r .edges)
-    one-in = g .enters n t (List·Memᴰ·head refl)
+    -- what produced the edge into n
+    from-in-edge : in-edge n (r .edges) .producer ≡ some input
+    from-in-edge = let (m, i) = in-edge-there n (r .edges) (omega (arith, one-in .one)) in one-in .linked (in-edge n (r .edges)) m (eqb→eq (in-edge n (r .edges) .consumer) n i) .1
 
     input-other : input ≢ n
     input-other j =
@@ -220,12 +216,10 @@ module _ (ps : List Step) (n : ℕ) (rest : List ℕ) (r : Run) (g : Linked ps (
         count-map (is-out-of n) relink (r .edges)
         ∙ count-none (λ (d : Edge). is-out-of n (relink d)) (r .edges) (λ d m. relinked-out n input input-other d)
 
-    enters-after : (k : ℕ) → step-at ps k .kind ≡ IR.Sort → List·Memᴰ k rest
-        → One-in k (step-at (unlink-node n r .steps) k .inputs) (map relink (r .edges))
-    unfolding unlink-node
+    enters-after : (k : ℕ) → step-at ps k .kind ≡ IR.Sort → List·Memᴰ k rest → One-in k (map relink (r .edges))
     enters-after k u m = by (ℕ-discrete k (out .consumer))
       where
-        h : One-in k (step-at (r .steps) k .inputs) (r .edges)
+        h : One-in k (r .edges)
         h = g .enters k u (List·Memᴰ·tail m)
 
         other : k ≢ n
@@ -236,54 +230,53 @@ module _ (ps : List Step) (n : ℕ) (rest : List ℕ) (r : Run) (g : Linked ps (
             count-map (is-into k) relink (r .edges)
             ∙ count-same (λ (d : Edge). is-into k (relink d)) (is-into k) (r .edges) (λ d i. relinked-into n input k d) ∙ h .one
 
-        inputs : List ℕ
-        inputs = step-at (r .steps) k .inputs
+        not-cut : (d : Edge) (from : ℕ) → T (is-into n d) → Comes-from k from (cut d)
+        not-cut d from v c = absurd (other (sym c ∙ eqb→eq (d .consumer) n v))
 
-        not-cut : (d : Edge) (l : List ℕ) → T (is-into n d) → From-input k l (cut d)
-        not-cut d l v c = absurd (other (sym c ∙ eqb→eq (d .consumer) n v))
-
-        by : Dec (k ≡ out .consumer)
-            → One-in k (step-at (set (r .steps) (out .consumer) (with-input (out .slot) input (step-at (r .steps) (out .consumer)))) k .inputs) (map relink (r .edges))
+        by : Dec (k ≡ out .consumer) → One-in k (map relink (r .edges))
         by (yes i) =
-            let slot = h .linked out (out-there .0) (sym i) .0 in
             let mine : (d : Edge) → List·Memᴰ d (r .edges) → d .consumer ≡ k → T (is-out-of n d) =
             λ d v c.
             let same = only-one (is-into k) (r .edges) (omega (arith, h .one)) d out v (equal (d .consumer) k c) (out-there .0) (equal (out .consumer) k (sym i)) in
             subst (λ (x : Edge). T (is-out-of n x)) (sym same) (out-there .1) in
-            rw (input-anew (r .steps) (out .consumer) k (out .slot) input i slot (has-inputs (r .steps) k (h .reads))) (record {
+            record {
+              from = input;
               one = one;
-              reads = simp length-set (h .reads);
               linked =
-                  of-map (From-input k (set inputs 0 input)) relink (r .edges)
-                  (λ d v. three-ways n input (From-input k (set inputs 0 input)) d (not-cut d (set inputs 0 input))
-                  (λ j w c. (h .linked d v c .0, ap some (sym (getD-set-same inputs 0 input 0 (h .reads)))))
+                  of-map (Comes-from k input) relink (r .edges)
+                  (λ d v. three-ways n (some input) (Comes-from k input) d (not-cut d input)
+                  (λ j w c. (h .linked d v c .0, refl))
                   (λ j w c. absurd (not-both (is-out-of n d) (mine d v c) w)));
-            })
+            }
         by (no l) =
-            rw getD-set-other (record {
+            record {
+              from = h .from;
               one = one;
-              reads = h .reads;
               linked =
-                  of-map (From-input k inputs) relink (r .edges)
-                  (λ d v. three-ways n input (From-input k inputs) d (not-cut d inputs)
+                  of-map (Comes-from k (h .from)) relink (r .edges)
+                  (λ d v. three-ways n (some input) (Comes-from k (h .from)) d (not-cut d (h .from))
                   (λ j w c. absurd (l (sym c ∙ ap (λ (x : Edge). x .consumer) (is-out d v w))))
                   (λ j w. h .linked d v));
-            })
+            }
 
-    unlinked-linked : Linked ps rest (unlink-node n r)
+    abbrev unlinked : List Edge → Run
+    unlinked es = let r₁ = unlink-node n r in
+        record { arena = r₁ .arena; steps = r₁ .steps; edges = es; back = r₁ .back; removed = r₁ .removed; tally = r₁ .tally }
+
+    relinked-linked : Kept ps (r .back) (n ∷ rest) (map relink (r .edges)) → Linked ps rest (unlinked (map relink (r .edges)))
     unfolding unlink-node sum
-    unlinked-linked = record {
+    relinked-linked kept = record {
       sorts = λ k. sorts-kept (r .steps) (out .consumer) _ refl k ∙ g .sorts k;
       once = λ k u. omega (arith, g .once k u);
       leaves = λ k u. by k u (ℕ-discrete k n);
       enters = enters-after;
       clear =
           λ k u. of-map (λ (d : Edge). d .producer ≡ some k → Clear (d .consumer) k rest) relink (r .edges)
-          (λ d m. three-ways n input (λ (x : Edge). x .producer ≡ some k → Clear (x .consumer) k rest) d
+          (λ d m. three-ways n (some input) (λ (x : Edge). x .producer ≡ some k → Clear (x .consumer) k rest) d
           (λ v p. let z : _≡_ {A = ℕ} 0 1 = cc in absurd (omega arith))
           (λ i v p. clear-absent (d .consumer) k rest (left-behind t d m (producer-of n d v) .1))
           (λ i j p. g .clear k u d m p .1));
-      kept = kept-part ps (r .back) (n ∷ rest) rest _ (λ m i. List·Memᴰ·tail i) (kept-visit ps (r .back) (n ∷ rest) n r e (List·Memᴰ·head refl) (g .kept));
+      kept = kept-part ps (r .back) (n ∷ rest) rest _ (λ m i. List·Memᴰ·tail i) kept;
     }
       where
         by : (k : ℕ) → step-at ps k .kind ≡ IR.Sort → Dec (k ≡ n) → outs k (map relink (r .edges)) ≡ times k (r .back) + times k rest
@@ -291,6 +284,13 @@ module _ (ps : List Step) (n : ℕ) (rest : List ℕ) (r : Run) (g : Linked ps (
             subst (λ y. outs y (map relink (r .edges)) ≡ times y (r .back) + times y rest) (sym i)
             (omega (arith, no-outs-after, g .once n t, times-same n rest))
         by k u (no h) = omega (arith, outs-after k h, g .leaves k u, times-other k n rest h)
+
+    unlinked-linked : Linked ps rest (unlink-node n r)
+    unfolding unlink-node
+    unlinked-linked =
+        subst (λ (p : Option ℕ). Linked ps rest (unlinked (map (relinked n p) (r .edges)))) (sym from-in-edge)
+        (relinked-linked (subst (λ (p : Option ℕ). Kept ps (r .back) (n ∷ rest) (map (relinked n p) (r .edges))) from-in-edge
+        (kept-visit ps (r .back) (n ∷ rest) n r e (List·Memᴰ·head refl) (g .kept))))
 
 pub linked-visit : (ps : List Step) (n : ℕ) (rest : List ℕ) (r r′ : Run) → Linked ps (n ∷ rest) r → simplify-ir-node-orders n r ≡ done r′ → Linked ps rest r′
 linked-visit ps n rest r r′ g e =

@@ -15,7 +15,7 @@ use Rattle.plan.specs.Faults.{references-right, children-earlier, inputs-earlie
 use Rattle.plan.proofs.ListLaws.{and-right, of-all, sum-append}
 use Rattle.plan.proofs.FaultLaws.{expr-passes, step-passes}
 use Rattle.claims.specs.WellFormed.{WellFormed}
-use Rattle.plan.proofs.Booleans.{all-at}
+use Rattle.plan.proofs.Booleans.{entry-at, all-at}
 use Rattle.plan.proofs.Counts.{mem-concat, sum-concat}
 use Rattle.claims.proofs.Sums.{sum-below, below-le, below-add, mark, mark-own}
 use Rattle.claims.proofs.Loads.{kids, load, load-kids}

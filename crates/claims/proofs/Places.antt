@@ -13,12 +13,14 @@ use lib.ListN.{length, getD}
 use Rattle.plan.specs.Lists.{if_then_else_, sum, times, numbered}
 use Rattle.plan.specs.Sheet.{Step, step-at}
 use Rattle.plan.specs.Faults.{named}
-use Rattle.plan.specs.Graph.{Edge, graph, grow, popped, hits, opens, following, edges-into, sinks, is-cache, most-places}
+use Rattle.plan.specs.Graph.{Edge, sinks, is-cache, most-places}
 use Rattle.plan.specs.Visit.{is-into, is-out-of}
 use Rattle.plan.proofs.ListLaws.{sum-append}
 use Rattle.plan.proofs.Booleans.{T-eq, differ, equal}
 use Rattle.plan.proofs.Counts.{false-of, mem-at, sum-reverse, sum-ones, times-same, times-other, same-number, only}
-use Rattle.claims.proofs.Plans.{Plan, root-there, input-there, cache-named, cache-used}
+use Rattle.claims.proofs.ByLine.{graph, grow, popped, hits, opens, following, edges-into}
+use Rattle.claims.specs.Plan.{Plan}
+use Rattle.claims.proofs.Plans.{root-there, input-there, cache-named}
 use Rattle.claims.proofs.Reached.{followed, followed-le, followed-none, followed-next, all-placed}
 use Rattle.claims.proofs.Hits.{hits-named}
 use Rattle.claims.proofs.Edges.{outs, intos, same-some}
@@ -232,7 +234,7 @@ module _ (ps : List Step) (plan : Plan ps) where
   -- before the first place nothing is opened: a Cache is named
   pub none-opened : (n : ℕ) → opened ps [] n ≡ false
   unfolding opened sum
-  none-opened n = by (is-cache ps n) (λ t. cache-used ps plan n t)
+  none-opened n = by (is-cache ps n) (λ t. plan .cache-used n t)
     where
       by : (b : Bool) → (T b → 1 ≤ times n (named ps)) → (if b then leb (times n (named ps)) 0 else false) ≡ false
       by true u = false-of (leb (times n (named ps)) 0) (λ k. let z = leb→le (times n (named ps)) 0 k in omega (arith, u tt))
@@ -262,7 +264,7 @@ pub graph-ordered : (ps : List Step) → Plan ps → Ordered ps (graph ps .0) (g
 unfolding opened sum
 graph-ordered ps plan =
     let (p, i, c, g) = result ps plan in
-    let all = all-placed ps plan p (opened ps p) (λ w. omega (arith, c w)) (λ n l e. by n (is-cache ps n) p e (plan .rooted n l)) in
+    let all = all-placed ps plan p (opened ps p) (λ w. omega (arith, c w)) (λ n l e. elim (plan .rooted n l) [ inl h ↦ inl (by n (is-cache ps n) p e h) | inr j ↦ inr j ]) in
     let times-in : (n : ℕ) → times n (graph ps .0) ≡ times n p = λ n. rw i (sum-reverse (only n) p) in
     record {
       back = p;

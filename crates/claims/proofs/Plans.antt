@@ -1,6 +1,6 @@
 -- The plan of a well-formed sheet: how often its steps are named (refusals 7 and 8).
 use mathlib.Core.Path.{_≡_, refl, ap, sym, _∙_, subst}
-use mathlib.Core.Logic.{_≢_}
+use mathlib.Core.Logic.{inl, _≢_}
 use Prim.Native.Nat.{ℕ, zero, suc, _+_, _≤_, _<_}
 use native.Mathlib.Omega.{arith}
 use native.Mathlib.Decide.{decLt}
@@ -16,11 +16,14 @@ use Rattle.plan.specs.Faults.{references-right, inputs-earlier, exprs-there, us
 use Rattle.plan.specs.Graph.{sinks, is-cache}
 use Rattle.plan.proofs.ListLaws.{and-left, and-right, of-all}
 use Rattle.claims.specs.WellFormed.{WellFormed}
-use Rattle.plan.proofs.FaultLaws.{step-passes}
-use Rattle.plan.proofs.Booleans.{differ, equal, all-at}
+use Rattle.claims.specs.Plan.{Plan}
+use Rattle.plan.proofs.Booleans.{differ, equal, all-at, entry-at}
 use Rattle.plan.proofs.Counts.{true-of, false-of, T-of, not-both, mem-concat, count-none, times-of, only}
-use Rattle.claims.proofs.StepTable.{has-inputs, sort-has-one-input}
-use Rattle.plan.proofs.KindNumbers.{in-range, same-kind}
+use Rattle.claims.proofs.StepTable.{sort-has-one-input}
+use Rattle.plan.proofs.KindNumbers.{same-kind, in-range}
+use Rattle.claims.proofs.CacheIds.{one-line-each-id}
+use Rattle.claims.proofs.Keys.{both-caches}
+use Rattle.plan.proofs.FaultLaws.{step-passes}
 
 -- The roots -------------------------------------------------------------------------------------------------------------------
 
@@ -61,22 +64,11 @@ sinks-at n k zero (x ∷ ps) e =
     omega (arith, here, not-before n (suc k) ps (omega arith))
 sinks-at n k (suc i) (x ∷ ps) e = skipped n k x ps (omega arith) ∙ sinks-at n (suc k) i ps (omega arith)
 
-sinks-count : (ps : List Step) (n : ℕ) → times n (sinks ps) ≡ (if same-ir (step-at ps n .kind) IR.Sink then 1 else 0)
+pub sinks-count : (ps : List Step) (n : ℕ) → times n (sinks ps) ≡ (if same-ir (step-at ps n .kind) IR.Sink then 1 else 0)
 unfolding sinks
 sinks-count ps n = sinks-at n 0 n ps (omega arith)
 
--- What the graph rests on -------------------------------------------------------------------------------------------------------
-
-pub record Plan (ps : List Step) : Type 0 where
-  -- the Sinks are the roots
-  pub roots : (n : ℕ) → times n (sinks ps) ≡ (if same-ir (step-at ps n .kind) IR.Sink then 1 else 0)
-  -- every step is a root or named, and none twice but a Cache
-  pub rooted : (n : ℕ) → n < length ps → 1 ≤ times n (sinks ps) + times n (named ps)
-  pub once : (n : ℕ) → T (not (is-cache ps n)) → times n (sinks ps) + times n (named ps) ≤ 1
-  -- inputs stand earlier
-  pub earlier : (n m : ℕ) → List·Memᴰ m (step-at ps n .inputs) → m < n
-  -- a sort has one input
-  pub one-input : (n : ℕ) → step-at ps n .kind ≡ IR.Sort → length (step-at ps n .inputs) ≡ 1
+-- Of a plan ---------------------------------------------------------------------------------------------------------------------
 
 module _ (ps : List Step) (plan : Plan ps) where
   pub root-there : (n : ℕ) → List·Memᴰ n (sinks ps) → n < length ps
@@ -87,22 +79,11 @@ module _ (ps : List Step) (plan : Plan ps) where
       by false e = absurd (omega (arith, times-of n (sinks ps) m))
 
   pub input-there : (n m : ℕ) → List·Memᴰ m (step-at ps n .inputs) → m < length ps
-  input-there n m i =
-      let h = has-inputs ps n (some (step-at ps n .inputs) i) in
-      omega (arith, plan .earlier n m i)
-    where
-      some : (l : List ℕ) → List·Memᴰ m l → 1 ≤ length l
-      some [] i = absurd (List·Memᴰ·not-nil i)
-      some (x ∷ l) i = omega arith
+  input-there = plan .input-there
 
   -- a Cache is no root
   pub cache-named : (n : ℕ) → T (is-cache ps n) → times n (sinks ps) ≡ 0
   cache-named n t = plan .roots n ∙ ap (λ (k : IR). if same-ir k IR.Sink then 1 else 0) (same-kind (step-at ps n .kind) IR.Cache t)
-
-  pub cache-used : (n : ℕ) → T (is-cache ps n) → 1 ≤ times n (named ps)
-  cache-used n t =
-      let there = in-range ps n (eqb→eq (ir-number (step-at ps n .kind)) 18 t) in
-      omega (arith, plan .rooted n there, cache-named n t)
 
 -- Of a well-formed sheet --------------------------------------------------------------------------------------------------------
 
@@ -115,7 +96,7 @@ module _ (sh : Sheet) (w : WellFormed sh) where
   inputs-all n h = and-left (inputs-earlier sh (n, step-at ps n)) (exprs-there sh (n, step-at ps n)) (step-passes (references-right sh) sh (w .references) n h)
 
   -- an input is an earlier step, and no Sink
-  input-right : (n m : ℕ) → List·Memᴰ m (step-at ps n .inputs) → (m < length ps) × (m < n) × (same-ir (step-at ps m .kind) IR.Sink ≡ false)
+  pub input-right : (n m : ℕ) → List·Memᴰ m (step-at ps n .inputs) → (m < length ps) × (m < n) × (same-ir (step-at ps m .kind) IR.Sink ≡ false)
   unfolding inputs-earlier
   input-right n m i = by (decLt n (length ps))
     where
@@ -160,7 +141,7 @@ module _ (sh : Sheet) (w : WellFormed sh) where
           let none : times n (sinks ps) ≡ 0 = sinks-count ps n ∙ ap (λ (x : Step). if same-ir (x .kind) IR.Sink then 1 else 0) past in
           omega (arith, none, unnamed n (λ p. l (p .0)))
 
-  rooted-or-named : (n : ℕ) → n < length ps → 1 ≤ times n (sinks ps) + times n (named ps)
+  pub rooted-or-named : (n : ℕ) → n < length ps → 1 ≤ times n (sinks ps) + times n (named ps)
   rooted-or-named n h = by (same-ir (step-at ps n .kind) IR.Sink) (is-cache ps n || leb (times n (named ps)) 1) (sinks-count ps n) (used-right n h)
     where
       by : (a b : Bool) → times n (sinks ps) ≡ (if a then 1 else 0) → T (a || (leb 1 (times n (named ps)) && b)) → 1 ≤ times n (sinks ps) + times n (named ps)
@@ -170,8 +151,20 @@ module _ (sh : Sheet) (w : WellFormed sh) where
   pub plan-of : Plan ps
   plan-of = record {
     roots = sinks-count ps;
-    rooted = rooted-or-named;
+    rooted = λ n h. inl (rooted-or-named n h);
+    cache-used =
+        λ n t.
+        let e = same-kind (step-at ps n .kind) IR.Cache t in
+        let none : times n (sinks ps) ≡ 0 = sinks-count ps n ∙ ap (λ (k : IR). if same-ir k IR.Sink then 1 else 0) e in
+        omega (arith, rooted-or-named n (in-range ps n (ap ir-number e)), none);
     once = once-named;
-    earlier = λ n m i. input-right n m i .1;
+    rank = λ n. n;
+    ranked = λ n h. h;
+    lower = λ n m i. input-right n m i .1;
+    input-there = λ n m i. input-right n m i .0;
     one-input = λ n e. sort-has-one-input (step-at ps n) e (all-at in-step-table ps no-step (w .steps-in-table) n (in-range ps n (ap ir-number e)));
+    ids =
+        λ k m t.
+        let (c, d, e) = both-caches ps k m t in
+        one-line-each-id sh w k m (same-kind (step-at ps k .kind) IR.Cache c) (same-kind (step-at ps m .kind) IR.Cache d) e;
   }

@@ -4,7 +4,7 @@ use mathlib.Core.Logic.{inl, inr}
 use Prim.Native.Nat.{ℕ, suc, _≤_, _<_}
 use native.Mathlib.Omega.{arith}
 use mathlib.Core.Bool.{Bool, true, false}
-use mathlib.Core.Option.{Option, none, some}
+use mathlib.Core.Option.{Option, none}
 use mathlib.Core.List.{List, [], _∷_, _++_}
 use lib.ListN.{length, length-set}
 use Rattle.plan.specs.declared.ir.IR.{IR}
@@ -108,8 +108,8 @@ pub record Printable (r : Run) : Type 0 where
   pub edges : Every Short-edge no-edge (r .edges)
   pub removed : length (r .removed) ≤ r .tally .visits
 
-relinked-short : (n input : ℕ) (d : Edge) → Short-edge d → Short-edge (relinked n input d)
-relinked-short n input d k = by (is-into n d) (is-out-of n d)
+relinked-short : (n : ℕ) (from : Option ℕ) (d : Edge) → Short-edge d → Short-edge (relinked n from d)
+relinked-short n from d k = by (is-into n d) (is-out-of n d)
   where
     short : (p : Option ℕ) (u : Bool) → Short-edge (record { consumer = d .consumer; slot = d .slot; producer = p; unordered = u })
     short p u = record { consumer = k .consumer; slot = k .slot }
@@ -117,10 +117,10 @@ relinked-short n input d k = by (is-into n d) (is-out-of n d)
     by : (a b : Bool)
         → Short-edge
         (if a then record { consumer = d .consumer; slot = d .slot; producer = none; unordered = true }
-        else if b then record { consumer = d .consumer; slot = d .slot; producer = some input; unordered = d .unordered }
+        else if b then record { consumer = d .consumer; slot = d .slot; producer = from; unordered = d .unordered }
         else d)
     by true b = short none true
-    by false true = short (some input) (d .unordered)
+    by false true = short from (d .unordered)
     by false false = k
 
 module _ (r : Run) (k : Printable r) (n : ℕ) where

@@ -13,15 +13,16 @@ use Rattle.plan.specs.Kinds.{same-ir}
 use Rattle.plan.specs.Lists.{if_then_else_, all?, select, numbered}
 use Rattle.plan.specs.Sheet.{Step, Sheet, _then_, no-expr, no-step, expr-at, step-at, in-expr-table, in-step-table}
 use Rattle.plan.specs.Faults.{references-right, inputs-earlier, exprs-there}
-use Rattle.plan.specs.Graph.{Edge, graph, grow, popped, following, opens, edges-into, sinks, most-places}
+use Rattle.plan.specs.Graph.{Edge, key, build-ir-traversal-graph, graph, grow, popped, following, opens, edges-into, sinks, most-places}
 use Rattle.plan.specs.Visit.{no-edge}
 use Rattle.plan.specs.Walks.{begin}
 use Rattle.plan.proofs.ListLaws.{and-left, of-all}
 use Rattle.plan.proofs.FaultLaws.{step-passes}
 use Rattle.claims.specs.WellFormed.{WellFormed}
-use Rattle.plan.proofs.Booleans.{all-at}
+use Rattle.plan.proofs.Booleans.{all-at, entry-at}
 use Rattle.claims.proofs.Tables.{few-children, small-option, of-step-table}
 use Rattle.claims.proofs.Sizes.{few-steps}
+use Rattle.claims.proofs.Keys.{key-there}
 use Rattle.plan.proofs.Counts.{mem-at}
 use Rattle.claims.proofs.Every.{Every, every-of, every-member, every-both}
 use Rattle.claims.proofs.Printable.{Slim, Plain, Short-edge, Printable}
@@ -31,40 +32,40 @@ use Rattle.claims.proofs.Printable.{Slim, Plain, Short-edge, Printable}
 no-edge-short : Short-edge no-edge
 no-edge-short = record { consumer = omega arith; slot = omega arith }
 
-numbered-short : (n j : ℕ) (ms : List ℕ) → n < 32 → j + length ms ≤ 8
-    → Every Short-edge no-edge (map (λ (k, m). record { consumer = n; slot = k; producer = some m; unordered = false }) (numbered j ms))
+numbered-short : (key : ℕ → ℕ) (n j : ℕ) (ms : List ℕ) → n < 32 → j + length ms ≤ 8
+    → Every Short-edge no-edge (map (λ (k, m). record { consumer = n; slot = k; producer = some (key m); unordered = false }) (numbered j ms))
 unfolding numbered
-numbered-short n j [] h k i = no-edge-short
-numbered-short n j (m ∷ ms) h k zero = record { consumer = h; slot = omega arith }
-numbered-short n j (m ∷ ms) h k (suc i) = numbered-short n (suc j) ms h (omega arith) i
+numbered-short key n j [] h k i = no-edge-short
+numbered-short key n j (m ∷ ms) h k zero = record { consumer = h; slot = omega arith }
+numbered-short key n j (m ∷ ms) h k (suc i) = numbered-short key n (suc j) ms h (omega arith) i
 
-module _ (ps : List Step) (plain : Every Plain no-step ps) where
-  following-few : (met past : List ℕ) (n : ℕ) → length (following ps met past n) ≤ 8
+module _ (ps : List Step) (plain : Every Plain no-step ps) (key : ℕ → ℕ) (there : (n : ℕ) → n < 32 → key n < 32) where
+  following-few : (met past : List ℕ) (n : ℕ) → length (following key ps met past n) ≤ 8
   unfolding following
-  following-few met past n = by (opens ps met past n)
+  following-few met past n = by (opens key ps met past n)
     where
-      by : (b : Bool) → length (if b then step-at ps n .inputs else []) ≤ 8
-      by true = plain n .few-inputs
+      by : (b : Bool) → length (if b then step-at ps (key n) .inputs else []) ≤ 8
+      by true = plain (key n) .few-inputs
       by false = omega arith
 
-  following-small : (met past : List ℕ) (n m : ℕ) → List·Memᴰ m (following ps met past n) → m < 32
+  following-small : (met past : List ℕ) (n m : ℕ) → List·Memᴰ m (following key ps met past n) → m < 32
   unfolding following
-  following-small met past n m = by (opens ps met past n)
+  following-small met past n m = by (opens key ps met past n)
     where
-      by : (b : Bool) → List·Memᴰ m (if b then step-at ps n .inputs else []) → m < 32
-      by true k = every-member (λ m. m < 32) 0 (step-at ps n .inputs) (plain n .inputs) m k
+      by : (b : Bool) → List·Memᴰ m (if b then step-at ps (key n) .inputs else []) → m < 32
+      by true k = every-member (λ m. m < 32) 0 (step-at ps (key n) .inputs) (plain (key n) .inputs) m k
       by false k = absurd (List·Memᴰ·not-nil k)
 
   grown-short : (f : ℕ) (met past waiting : List ℕ) (es : List Edge) → ((m : ℕ) → List·Memᴰ m waiting → m < 32) → Every Short-edge no-edge es
-      → Every Short-edge no-edge (grow f ps met past waiting es .1)
+      → Every Short-edge no-edge (grow key f ps met past waiting es .1)
   unfolding grow edges-into
   grown-short zero met past waiting es h k = k
   grown-short (suc f) met past [] es h k = k
   grown-short (suc f) met past (n ∷ ns) es h k =
-      let ms = following ps met past n in
-      grown-short f met (n ∷ past) (ns ++ ms) (es ++ edges-into n ms)
+      let ms = following key ps met past n in
+      grown-short f met (n ∷ past) (ns ++ ms) (es ++ edges-into key n ms)
       (λ m j. elim (List·Memᴰ·append-cases ns j) [ inl j₁ ↦ h m (List·Memᴰ·tail j₁) | inr j₁ ↦ following-small met past n m j₁ ])
-      (every-both Short-edge no-edge es (edges-into n ms) k (numbered-short n 0 ms (h n (List·Memᴰ·head refl)) (omega (arith, following-few met past n))))
+      (every-both Short-edge no-edge es (edges-into key n ms) k (numbered-short key (key n) 0 ms (there n (h n (List·Memᴰ·head refl))) (omega (arith, following-few met past n))))
 
 sinks-below : (f : ℕ × Step → Bool) (k : ℕ) (l : List Step) (m : ℕ) → List·Memᴰ m (map (λ (n, s). n) (select f (numbered k l))) → m < k + length l
 unfolding select numbered
@@ -78,9 +79,9 @@ sinks-below f k (x ∷ l) m j = by (f (k, x)) (λ j. sinks-below f (suc k) l m j
     by false g j = omega (arith, g j)
 
 graph-short : (ps : List Step) → length ps ≤ 32 → Every Plain no-step ps → Every Short-edge no-edge (graph ps .1)
-unfolding graph sinks
+unfolding graph build-ir-traversal-graph sinks
 graph-short ps h plain =
-    grown-short ps plain (most-places ps) (popped ps) [] (sinks ps) [] (λ m j. omega (arith, sinks-below _ 0 ps m j)) (λ i. no-edge-short)
+    grown-short ps plain (key ps) (λ n l. key-there ps n h l) (most-places ps) (popped ps) [] (sinks ps) [] (λ m j. omega (arith, sinks-below _ 0 ps m j)) (λ i. no-edge-short)
 
 -- A well-formed sheet ----------------------------------------------------------------------------------------------------------
 

@@ -15,7 +15,7 @@ use Rattle.plan.specs.Faults.{named}
 use Rattle.plan.specs.Graph.{sinks}
 use Rattle.plan.proofs.Booleans.{differ}
 use Rattle.plan.proofs.Counts.{true-of, entry-of, sum-eq, sum-le, sum-numbered, sum-concat, count-none, only}
-use Rattle.claims.proofs.Plans.{Plan}
+use Rattle.claims.specs.Plan.{Plan}
 
 -- what the inputs of the open steps weigh, by a weighing of the steps
 unfoldable pub followed : (ℕ → ℕ) → List Step → (ℕ → Bool) → ℕ
@@ -100,18 +100,26 @@ followed-next w ps opened opened′ n h same =
 
 -- The end of a pass -----------------------------------------------------------------------------------------------------------
 
--- A pass has put down `places`; a step that has all its places is open. Then all steps are, from the last back to the first:
--- whoever names a step stands after it
+-- A pass has put down `places`; a step that has all its places is open. Then all steps are, from the highest rank down: whoever names a
+-- step has a higher one
 module _ (ps : List Step) (plan : Plan ps) (places : List ℕ) (opened : ℕ → Bool) (counted : (w : ℕ → ℕ) → sum w places ≡ sum w (sinks ps) + followed w ps opened)
-    (opens : (n : ℕ) → n < length ps → times n places ≡ times n (sinks ps) + times n (named ps) → T (opened n)) where
-  all-open : (f n : ℕ) → length ps ≤ n + f → n < length ps → T (opened n)
-  all-open zero n h l = absurd (omega arith)
+    (opens : (n : ℕ) → n < length ps → times n places ≡ times n (sinks ps) + times n (named ps) → T (opened n) ⊎ (step-at ps n .inputs ≡ [])) where
+  weightless : (w : ℕ → ℕ) (n : ℕ) → T (opened n) ⊎ (step-at ps n .inputs ≡ []) → T (opened n) ⊎ (sum w (step-at ps n .inputs) ≡ 0)
+  unfolding sum
+  weightless w n (inl t) = inl t
+  weightless w n (inr e) = inr (ap (sum w) e)
+
+  all-open : (f n : ℕ) → length ps ≤ plan .rank n + f → n < length ps → T (opened n) ⊎ (step-at ps n .inputs ≡ [])
+  all-open zero n h l = absurd (omega (arith, plan .ranked n l))
   all-open (suc f) n h l =
-      opens n l (omega (arith, counted (only n), followed-all (only n) ps opened (λ m k. by m k (decLt n m) (λ i. all-open f m (omega arith) k))))
+      opens n l (omega (arith, counted (only n), followed-all (only n) ps opened (λ m k. by m k (decLt (plan .rank n) (plan .rank m)) (λ i. all-open f m (omega arith) k))))
     where
-      by : (m : ℕ) → m < length ps → Dec (n < m) → (n < m → T (opened m)) → T (opened m) ⊎ (times n (step-at ps m .inputs) ≡ 0)
-      by m k (yes i) rec = inl (rec i)
-      by m k (no i) rec = inr (count-none (eqb n) (step-at ps m .inputs) (λ q j. differ n q (let z = plan .earlier m q j in omega arith)))
+      by : (m : ℕ) → m < length ps → Dec (plan .rank n < plan .rank m) → (plan .rank n < plan .rank m → T (opened m) ⊎ (step-at ps m .inputs ≡ []))
+          → T (opened m) ⊎ (times n (step-at ps m .inputs) ≡ 0)
+      by m k (yes i) rec = weightless (only n) m (rec i)
+      by m k (no i) rec =
+          inr (count-none (eqb n) (step-at ps m .inputs)
+          (λ q j. differ n q (λ e. let z = subst (λ x. plan .rank x < plan .rank m) (sym e) (plan .lower m q j) in omega arith)))
 
   pub all-placed : (w : ℕ → ℕ) → sum w places ≡ sum w (sinks ps) + sum w (named ps)
-  all-placed w = omega (arith, counted w, followed-all w ps opened (λ n h. inl (all-open (length ps) n (omega arith) h)))
+  all-placed w = omega (arith, counted w, followed-all w ps opened (λ n h. weightless w n (all-open (length ps) n (omega arith) h)))

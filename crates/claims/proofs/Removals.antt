@@ -9,7 +9,7 @@ use mathlib.Core.List.{List, [], _∷_, List·Memᴰ, List·Memᴰ·head, List·
 use lib.Dec.{T}
 use lib.ListN.{length}
 use Rattle.plan.specs.declared.ir.IR.{IR}
-use Rattle.plan.specs.Kinds.{ir-number, same-ir}
+use Rattle.plan.specs.Kinds.{same-ir}
 use Rattle.plan.specs.Lists.{yes?, sum, times}
 use Rattle.plan.specs.Sheet.{Sheet, Outcome, done, step-at}
 use Rattle.plan.specs.Graph.{Edge, graph}
@@ -24,13 +24,13 @@ use Rattle.claims.proofs.Taken.{well-formed}
 use Rattle.claims.proofs.Walks.{two-ways, walk-keeps, trace-keeps, walk-at}
 use Rattle.claims.proofs.Visits.{walked}
 use Rattle.plan.proofs.Counts.{T-of, not-both, mem-at, counted-in, times-of, stands-in, only}
+use Rattle.claims.proofs.Merged.{ordered-graph}
+use Rattle.claims.proofs.MergedPlan.{Keyed, keyed-of}
 use Rattle.plan.proofs.KindNumbers.{in-range}
-use Rattle.claims.proofs.Plans.{Plan, plan-of}
-use Rattle.claims.proofs.Places.{graph-ordered}
 use Rattle.claims.proofs.Edges.{edge-at, out-edge-at, leaving-there, leaving-out, unordered-there, walk-looser}
 use Rattle.claims.proofs.Stays.{unsliced-sort, sort-kind, goes-sort, kept-at}
 use Rattle.claims.proofs.Links.{Linked, one-out, linked-visit}
-use Rattle.claims.proofs.Starts.{linked-begin}
+use Rattle.claims.proofs.Starts.{linked-begin, sort-rooted}
 use Rattle.claims.proofs.Rises.{held-out, Rising, rising-stays, rising-visit}
 use Rattle.claims.proofs.NoCacheAfter.{none-after}
 
@@ -104,18 +104,18 @@ back-or-removed n ns r {r′} e =
 
 -- The claim -------------------------------------------------------------------------------------------------------------------------------
 
-module _ (sh : Sheet) (plan : Plan (sh .steps)) (half : Run) (e₁ : down sh ≡ done half) where
+module _ (sh : Sheet) (keyed : Keyed (sh .steps)) (half : Run) (e₁ : down sh ≡ done half) where
   abbrev places : List ℕ
   places = graph (sh .steps) .0
 
   at-end : Linked (sh .steps) [] half
   unfolding down
-  at-end = walk-keeps (Linked (sh .steps)) (linked-visit (sh .steps)) places (begin sh) (linked-begin sh plan) e₁
+  at-end = walk-keeps (Linked (sh .steps)) (linked-visit (sh .steps)) places (begin sh) (linked-begin sh keyed) e₁
 
   -- at a visit on the way down
   at-visit : (n : ℕ) (r : Run) → Down sh n r → (ms : List ℕ) × Linked (sh .steps) (n ∷ ms) r × (walk (n ∷ ms) r ≡ done half)
   unfolding down
-  at-visit n r m = walk-at (Linked (sh .steps)) (linked-visit (sh .steps)) places (begin sh) (linked-begin sh plan) e₁ n r m
+  at-visit n r m = walk-at (Linked (sh .steps)) (linked-visit (sh .steps)) places (begin sh) (linked-begin sh keyed) e₁ n r m
 
   rising : Rising (sh .steps) (half .removed) (half .back) half
   unfolding sum
@@ -155,7 +155,7 @@ module _ (sh : Sheet) (plan : Plan (sh .steps)) (half : Run) (e₁ : down sh ≡
     where
       by : Dec (1 ≤ times n (half .removed)) → times n (half .removed) ≤ 1
       by (yes h) =
-          omega (arith, back-or-removed n places (begin sh) e₁, linked-begin sh plan .once n (down-sorts n (stands-in n (half .removed) h)))
+          omega (arith, back-or-removed n places (begin sh) e₁, linked-begin sh keyed .once n (down-sorts n (stands-in n (half .removed) h)))
       by (no h) = omega arith
 
   -- in both walks
@@ -202,8 +202,8 @@ module _ (sh : Sheet) (plan : Plan (sh .steps)) (half : Run) (e₁ : down sh ≡
                 (leaving n r, inl (r, inl m, x, refl), omega (arith, walked (n ∷ ms) r w .edges))
           ]
       by (no h) =
-          let placed = graph-ordered (sh .steps) plan .placed-all (only n) in
-          let rooted = plan .rooted n (in-range (sh .steps) n (ap ir-number is-sort)) in
+          let placed = ordered-graph (sh .steps) (keyed .plan) .placed-all (only n) in
+          let rooted = sort-rooted sh keyed n is-sort in
           let there = leaving-there n (half .edges) (omega (arith, at-end .leaves n is-sort, back-or-removed n places (begin sh) e₁)) in
           (leaving n half, inr ((λ x. h (times-of n (half .removed) (removed-down n .1 x))), refl), there)
 
@@ -219,15 +219,15 @@ module _ (sh : Sheet) (plan : Plan (sh .steps)) (half : Run) (e₁ : down sh ≡
 
 pub removal : (s : List ℕ) (sh : Sheet) (half whole : Run) → Accepted s sh → down sh ≡ done half → up half ≡ done whole → Sorts-removed sh half whole
 removal s sh half whole a e₁ e₂ =
-    let plan = plan-of sh (well-formed s sh a) in
+    let keyed = keyed-of sh (well-formed s sh a) in
     record {
-      has-edge = has-edge sh plan half e₁;
-      no-cache = λ n l _. removed-exactly sh plan half e₁ n l;
-      none-up = λ n _. none-up sh plan half e₁ n;
-      under-cache = λ n l k. absurd (none-after sh plan n l k);
-      removed-down = down-exactly sh plan half e₁;
-      down-once = down-once sh plan half e₁;
-      down-sorts = down-sorts sh plan half e₁;
-      counted-once = λ n. rw (same-removed sh plan half e₁ whole e₂) (down-once sh plan half e₁ n);
-      counted = λ n. rw (same-removed sh plan half e₁ whole e₂) (removed-down sh plan half e₁ n);
+      has-edge = has-edge sh keyed half e₁;
+      no-cache = λ n l _. removed-exactly sh keyed half e₁ n l;
+      none-up = λ n _. none-up sh keyed half e₁ n;
+      under-cache = λ n l k. absurd (none-after sh keyed n l k);
+      removed-down = down-exactly sh keyed half e₁;
+      down-once = down-once sh keyed half e₁;
+      down-sorts = down-sorts sh keyed half e₁;
+      counted-once = λ n. rw (same-removed sh keyed half e₁ whole e₂) (down-once sh keyed half e₁ n);
+      counted = λ n. rw (same-removed sh keyed half e₁ whole e₂) (removed-down sh keyed half e₁ n);
     }

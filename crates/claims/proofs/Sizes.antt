@@ -22,8 +22,8 @@ use Rattle.claims.proofs.Walks.{two-ways, walk-keeps, trace-keeps}
 use Rattle.claims.proofs.Visits.{visited, walked, length-numbered, places-counted}
 use Rattle.plan.proofs.Counts.{sum-ones, select-le}
 use Rattle.claims.proofs.StepTable.{few-inputs}
-use Rattle.claims.proofs.Plans.{plan-of}
-use Rattle.claims.proofs.Places.{graph-ordered}
+use Rattle.claims.proofs.Merged.{merged, sinks-merged, fewer-named, ordered-graph}
+use Rattle.claims.proofs.MergedPlan.{keyed-of}
 
 -- The graph ---------------------------------------------------------------------------------------------------------------------------
 
@@ -51,14 +51,17 @@ module _ (sh : Sheet) (w : WellFormed sh) where
       by false b t = tt
 
   -- a place for each root and each naming
-  pub length-places : length (graph ps .0) ≡ length (sinks ps) + length (named ps)
-  length-places = omega (arith, sum-ones (graph ps .0), sum-ones (sinks ps), sum-ones (named ps), graph-ordered ps (plan-of sh w) .placed-all (λ _. 1))
+  pub length-places : length (graph ps .0) ≡ length (sinks ps) + length (named (merged ps))
+  length-places =
+      let qs = merged ps in
+      let e = ordered-graph ps (keyed-of sh w .plan) .placed-all (λ _. 1) in
+      omega (arith, sum-ones (graph ps .0), sum-ones (sinks qs), sum-ones (named qs), ap length (sinks-merged ps), e)
 
   pub few-places : length (graph ps .0) ≤ 288
-  few-places = omega (arith, length-places, few-steps, few-sinks ps, few-named ps (w .steps-in-table))
+  few-places = omega (arith, length-places, few-steps, fewer-named ps, few-sinks ps, few-named ps (w .steps-in-table))
 
   pub few-edges : length (graph ps .1) ≤ 256
-  few-edges = omega (arith, length-places, places-counted ps, few-steps, few-named ps (w .steps-in-table))
+  few-edges = omega (arith, length-places, fewer-named ps, places-counted ps, few-steps, few-named ps (w .steps-in-table))
 
 -- The runs ------------------------------------------------------------------------------------------------------------------------------
 

@@ -9,17 +9,21 @@ use mathlib.Core.Option.{some}
 use lib.Dec.{T}
 use lib.ListN.{length, getD}
 use Rattle.plan.specs.declared.ir.IR.{IR}
-use Rattle.plan.specs.Kinds.{same-ir}
+use Rattle.plan.specs.Kinds.{ir-number, same-ir}
 use Rattle.plan.specs.Lists.{if_then_else_, sum, times}
 use Rattle.plan.specs.Sheet.{Step, Sheet, step-at}
 use Rattle.plan.specs.Faults.{named}
-use Rattle.plan.specs.Graph.{Edge, graph, sinks, is-cache}
+use Rattle.plan.specs.Graph.{Edge, key, graph, sinks, is-cache}
 use Rattle.plan.specs.Walks.{begin}
 use Rattle.claims.specs.Demand3.{Is-sort}
 use Rattle.plan.proofs.Counts.{mem-at, sum-reverse, times-of, times-same, only}
-use Rattle.claims.proofs.Plans.{Plan}
+use Rattle.plan.proofs.KindNumbers.{in-range}
+use Rattle.claims.specs.Plan.{Plan}
+use Rattle.claims.proofs.Keys.{key-other}
+use Rattle.claims.proofs.Merged.{merged, merged-kind, ordered-graph}
+use Rattle.claims.proofs.MergedPlan.{Keyed}
 use Rattle.claims.proofs.Edges.{outs, same-some}
-use Rattle.claims.proofs.Places.{Later, Ordered, graph-ordered}
+use Rattle.claims.proofs.Places.{Later, Ordered}
 use Rattle.claims.proofs.Links.{Clear, One-in, Linked}
 
 clear-without : (c n : ℕ) (l : List ℕ) → ¬ List·Memᴰ n l → Clear c n l
@@ -47,9 +51,18 @@ later-clear c n (x ∷ p) h o l =
         let one = times-of n (reverse p) m in
         omega (arith, one, sum-reverse (only n) p, subst (λ y. times n (y ∷ p) ≤ 1) e o, times-same n p)
 
-module _ (sh : Sheet) (plan : Plan (sh .steps)) where
+module _ (sh : Sheet) (keyed : Keyed (sh .steps)) where
   abbrev ps : List Step
   ps = sh .steps
+
+  abbrev plan : Plan (merged ps)
+  plan = keyed .plan
+
+  pub sort-key : (n : ℕ) → Is-sort sh n → key ps n ≡ n
+  sort-key n e = key-other ps n (ap (λ (k : IR). same-ir k IR.Cache) e)
+
+  sort-merged : (n : ℕ) → Is-sort sh n → step-at (merged ps) n .kind ≡ IR.Sort
+  sort-merged n e = merged-kind ps n (sort-key n e) ∙ e
 
   abbrev places : List ℕ
   places = graph ps .0
@@ -57,48 +70,56 @@ module _ (sh : Sheet) (plan : Plan (sh .steps)) where
   abbrev edges : List Edge
   edges = graph ps .1
 
-  g : Ordered ps places edges
-  g = graph-ordered ps plan
+  pub g : Ordered (merged ps) places edges
+  g = ordered-graph ps plan
 
-  not-cache : (n : ℕ) → Is-sort sh n → T (not (is-cache ps n))
-  not-cache n e = subst (λ (k : IR). T (not (same-ir k IR.Cache))) (sym e) tt
+  not-cache : (n : ℕ) → Is-sort sh n → T (not (is-cache (merged ps) n))
+  not-cache n e = subst (λ (k : IR). T (not (same-ir k IR.Cache))) (sym (sort-merged n e)) tt
 
-  pub named-once : (n : ℕ) → Is-sort sh n → times n (sinks ps) + times n (named ps) ≤ 1
+  pub named-once : (n : ℕ) → Is-sort sh n → times n (sinks (merged ps)) + times n (named (merged ps)) ≤ 1
   named-once n e = plan .once n (not-cache n e)
+
+  -- a sort is a root or named
+  pub sort-rooted : (n : ℕ) → Is-sort sh n → 1 ≤ times n (sinks (merged ps)) + times n (named (merged ps))
+  sort-rooted n e =
+      elim (plan .rooted n (in-range (merged ps) n (ap ir-number (sort-merged n e)))) [
+        | inl h ↦ h
+        | inr i ↦ let one = plan .one-input n (sort-merged n e) in absurd (omega (arith, ap length i))
+      ]
 
   one-place : (n : ℕ) → Is-sort sh n → times n places ≤ 1
   one-place n e = omega (arith, g .placed-all (only n), named-once n e)
 
   pub one-edge : (n : ℕ) → Is-sort sh n → outs n edges ≡ times n places
   one-edge n e =
-      let unrooted : times n (sinks ps) ≡ 0 = plan .roots n ∙ ap (λ (k : IR). if same-ir k IR.Sink then 1 else 0) e in
+      let unrooted : times n (sinks (merged ps)) ≡ 0 = plan .roots n ∙ ap (λ (k : IR). if same-ir k IR.Sink then 1 else 0) (sort-merged n e) in
       omega (arith, g .leaving n)
 
-  pub named-by : (n : ℕ) (d : Edge) → List·Memᴰ d edges → d .producer ≡ some n → List·Memᴰ n (step-at ps (d .consumer) .inputs)
+  pub named-by : (n : ℕ) (d : Edge) → List·Memᴰ d edges → d .producer ≡ some n → List·Memᴰ n (step-at (merged ps) (d .consumer) .inputs)
   named-by n d m j =
       let (h, q) = g .made d m in
-      let inputs = step-at ps (d .consumer) .inputs in
+      let inputs = step-at (merged ps) (d .consumer) .inputs in
       subst (λ x. List·Memᴰ x inputs) (same-some (sym q ∙ j)) (mem-at inputs (d .slot) 0 h)
 
   -- the consumer of an edge out of a sort
   pub consumer-before : (n : ℕ) → Is-sort sh n → (d : Edge) → List·Memᴰ d edges → d .producer ≡ some n → Clear (d .consumer) n places
   consumer-before n e d m j =
-      let apart : n ≢ d .consumer = let h = plan .earlier (d .consumer) n (named-by n d m j) in omega arith in
+      let apart : n ≢ d .consumer = λ i. let h = subst (λ x. plan .rank n < plan .rank x) (sym i) (plan .lower (d .consumer) n (named-by n d m j)) in omega arith in
       let one = subst (λ l. times n l ≤ 1) (g .reversed) (one-place n e) in
       rw (g .reversed) (later-clear (d .consumer) n (g .back) apart (omega (arith, one, sum-reverse (only n) (g .back))) (g .after d m n j))
 
-  enters-at : (n : ℕ) → Is-sort sh n → List·Memᴰ n places → One-in n (step-at ps n .inputs) edges
+  enters-at : (n : ℕ) → Is-sort sh n → List·Memᴰ n places → One-in n edges
   enters-at n e m =
-      let l = plan .one-input n e in
+      let l = plan .one-input n (sort-merged n e) in
       record {
+        from = getD (step-at (merged ps) n .inputs) 0 0;
         one = omega (arith, g .entering n (not-cache n e) l, times-of n places m, one-place n e);
-        reads = omega arith;
         linked =
             λ d k j.
-            let Named : ℕ → Type 0 = λ x. let inputs = step-at ps x .inputs in (d .slot < length inputs) × (d .producer ≡ some (getD inputs (d .slot) 0)) in
+            let Named : ℕ → Type 0 = λ x. let inputs = step-at (merged ps) x .inputs in (d .slot < length inputs) × (d .producer ≡ some (getD inputs (d .slot) 0)) in
             let (h, q) = subst Named j (g .made d k) in
             let first : d .slot ≡ 0 = omega arith in
-            (first, q ∙ ap (λ x. some (getD (step-at ps n .inputs) x 0)) first);
+            (first, q ∙ ap (λ x. some (getD (step-at (merged ps) n .inputs) x 0)) first);
       }
 
   pub linked-begin : Linked ps places (begin sh)

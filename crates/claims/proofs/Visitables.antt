@@ -1,5 +1,5 @@
 -- What the code of a visit leans on holds at every visit: an invariant of a run and of the places that it has still to visit.
-use mathlib.Core.Path.{_≡_, refl, ap, sym, _∙_, subst}
+use mathlib.Core.Path.{_≡_, refl, ap, sym, subst}
 use mathlib.Core.Logic.{inl, inr}
 use Prim.Native.Nat.{ℕ, _+_, _≤_, _<_}
 use native.Mathlib.Omega.{arith}
@@ -7,10 +7,8 @@ use native.Mathlib.Decide.{decLt}
 use mathlib.Core.List.{List, [], _∷_, List·Memᴰ, List·Memᴰ·head, List·Memᴰ·tail, List·Memᴰ·not-nil, List·Memᴰ·cases-cons, Memᴰ·append-left, Memᴰ·append-right}
 use lib.Dec.{T}
 use lib.ListN.{length, getD, length-set}
-use Rattle.plan.specs.declared.ir.IR.{IR}
-use Rattle.plan.specs.Kinds.{same-ir}
-use Rattle.plan.specs.Lists.{if_then_else_, times}
-use Rattle.plan.specs.Sheet.{Expr, Step, Sheet, done, no-step, step-at, in-step-table}
+use Rattle.plan.specs.Lists.{times}
+use Rattle.plan.specs.Sheet.{Step, Sheet, done, no-step, step-at, in-step-table}
 use Rattle.plan.specs.Faults.{named}
 use Rattle.plan.specs.Graph.{Edge, graph, sinks}
 use Rattle.plan.specs.Visit.{Run, simplify-ir-node-orders, unlink-node, settled, looked-in, looks-of, ruled-step, with-input, no-edge, out-edge}
@@ -21,9 +19,11 @@ use Rattle.claims.proofs.Walks.{two-ways, walk-keeps}
 use Rattle.plan.proofs.Booleans.{all-at}
 use Rattle.plan.proofs.Counts.{mem-at, mem-concat, only, times-of, stands-in}
 use Rattle.claims.proofs.Every.{Every, every-of, every-set}
-use Rattle.claims.proofs.StepTable.{has-inputs}
-use Rattle.claims.proofs.Plans.{Plan, root-there, input-there, plan-of}
-use Rattle.claims.proofs.Places.{graph-ordered}
+use Rattle.claims.proofs.StepTable.{has-inputs, sort-has-one-input}
+use Rattle.claims.specs.Plan.{Plan}
+use Rattle.claims.proofs.Plans.{root-there, input-there}
+use Rattle.claims.proofs.Merged.{merged, length-merged, merged-fewer, ordered-graph}
+use Rattle.claims.proofs.MergedPlan.{keyed-of}
 use Rattle.claims.proofs.Edges.{edge-at, three-ways, visit-edge}
 use Rattle.claims.proofs.Stays.{unsliced-sort, sort-kind, ruling-sort, reads-kept, goes-sort}
 use Rattle.claims.proofs.Removals.{removes}
@@ -142,22 +142,25 @@ going-visitable most n ns r few k =
       looks = limits .looks;
       consumers = λ j h. has-inputs (r .steps) (edge-at j r .consumer) (omega (arith, k .slots j h));
       slots = k .slots;
-      input = λ t. (k .readable n .input (goes-sort n r t .0), k .printable .steps n .inputs 0);
+      input = λ t. k .readable n .input (goes-sort n r t .0);
     }
 
 -- A well-formed sheet ------------------------------------------------------------------------------------------------------------
 
 -- a place is a root's or an input's
-place-there : (ps : List Step) → Plan ps → (m : ℕ) → List·Memᴰ m (graph ps .0) → m < length ps
+place-there : (ps : List Step) → Plan (merged ps) → (m : ℕ) → List·Memᴰ m (graph ps .0) → m < length ps
 unfolding named
-place-there ps plan m i = by (decLt 0 (times m (sinks ps)))
+place-there ps plan m i = omega (arith, length-merged ps, by (decLt 0 (times m (sinks (merged ps)))))
   where
-    by : Dec (0 < times m (sinks ps)) → m < length ps
-    by (yes h) = root-there ps plan m (stands-in m (sinks ps) h)
+    qs : List Step
+    qs = merged ps
+
+    by : Dec (0 < times m (sinks qs)) → m < length qs
+    by (yes h) = root-there qs plan m (stands-in m (sinks qs) h)
     by (no h) =
-        let once : 1 ≤ times m (named ps) = omega (arith, times-of m (graph ps .0) i, graph-ordered ps plan .placed-all (only m)) in
-        let (n, _, j) = mem-concat (λ (s : Step). s .inputs) ps no-step m (stands-in m (named ps) once) in
-        input-there ps plan n m j
+        let once : 1 ≤ times m (named qs) = omega (arith, times-of m (graph ps .0) i, ordered-graph ps plan .placed-all (only m)) in
+        let (n, _, j) = mem-concat (λ (s : Step). s .inputs) qs no-step m (stands-in m (named qs) once) in
+        input-there qs plan n m j
 
 module _ (sh : Sheet) (wf : WellFormed sh) where
   readable-at-start : Every Readable no-step (sh .steps)
@@ -165,12 +168,12 @@ module _ (sh : Sheet) (wf : WellFormed sh) where
       every-of Readable no-step (sh .steps) (record { input = λ t. absurd t })
       (λ n h.
       let s = step-at (sh .steps) n in
-      record { input = λ t. omega (arith, plan-of sh wf .one-input n (sort-kind s t)) })
+      record { input = λ t. omega (arith, sort-has-one-input s (sort-kind s t) (all-at in-step-table (sh .steps) no-step (wf .steps-in-table) n h)) })
 
   pub going-begin : Going 288 (graph (sh .steps) .0) (begin sh)
   unfolding begin
   going-begin =
-      let plan = plan-of sh wf in
+      let plan = keyed-of sh wf .plan in
       let edges = graph (sh .steps) .1 in
       record {
         within = within-begin sh wf;
@@ -179,7 +182,10 @@ module _ (sh : Sheet) (wf : WellFormed sh) where
         back = λ m i. absurd (List·Memᴰ·not-nil i);
         few = omega (arith, few-places sh wf);
         readable = readable-at-start;
-        slots = λ k h. graph-ordered (sh .steps) plan .made (getD edges k no-edge) (mem-at edges k no-edge h) .0;
+        slots =
+            λ k h.
+            let d = getD edges k no-edge in
+            omega (arith, ordered-graph (sh .steps) plan .made d (mem-at edges k no-edge h) .0, merged-fewer (sh .steps) (d .consumer));
       }
 
   pub going-half : (half : Run) → down sh ≡ done half → Going 576 (half .back) half

@@ -7,7 +7,7 @@ use mathlib.Core.List.{List, [], _∷_, _++_}
 use lib.ListN.{length, length-append, length-map, length-reverse}
 use Rattle.plan.specs.Lists.{numbered}
 use Rattle.plan.specs.Sheet.{Step, Sheet, Outcome, done}
-use Rattle.plan.specs.Graph.{Edge, graph, grow, popped, following, edges-into, sinks, most-places}
+use Rattle.plan.specs.Graph.{Edge, key, build-ir-traversal-graph, graph, grow, popped, following, edges-into, sinks, most-places}
 use Rattle.plan.specs.Visit.{Run, simplify-ir-node-orders, unlink-node, settled}
 use Rattle.plan.specs.Walks.{walk, trace, then-all, begin, down, up}
 use Rattle.plan.proofs.Outcomes.{both-done}
@@ -59,23 +59,23 @@ unfolding numbered
 length-numbered k [] = refl
 length-numbered k (x ∷ l) = ap suc (length-numbered (suc k) l)
 
-pub length-edges-into : (n : ℕ) (ms : List ℕ) → length (edges-into n ms) ≡ length ms
+pub length-edges-into : (key : ℕ → ℕ) (n : ℕ) (ms : List ℕ) → length (edges-into key n ms) ≡ length ms
 unfolding edges-into
-length-edges-into n ms = simp (length-map, length-numbered)
+length-edges-into key n ms = simp (length-map, length-numbered)
 
 -- a place of the visiting list for each root and each edge
-grown : (f : ℕ) (ps : List Step) (met past waiting : List ℕ) (es : List Edge)
-    → length (grow f ps met past waiting es .0) + length es ≡ length past + length waiting + length (grow f ps met past waiting es .1)
+grown : (key : ℕ → ℕ) (f : ℕ) (ps : List Step) (met past waiting : List ℕ) (es : List Edge)
+    → length (grow key f ps met past waiting es .0) + length es ≡ length past + length waiting + length (grow key f ps met past waiting es .1)
 unfolding grow
-grown zero ps met past waiting es = simp (length-append, length-reverse) (omega arith)
-grown (suc f) ps met past [] es = simp length-reverse (omega arith)
-grown (suc f) ps met past (n ∷ ns) es =
-    let ms = following ps met past n in
-    omega (arith, simp (length-append, length-edges-into) at (grown f ps met (n ∷ past) (ns ++ ms) (es ++ edges-into n ms)))
+grown key zero ps met past waiting es = simp (length-append, length-reverse) (omega arith)
+grown key (suc f) ps met past [] es = simp length-reverse (omega arith)
+grown key (suc f) ps met past (n ∷ ns) es =
+    let ms = following key ps met past n in
+    omega (arith, simp (length-append, length-edges-into) at (grown key f ps met (n ∷ past) (ns ++ ms) (es ++ edges-into key n ms)))
 
 pub places-counted : (ps : List Step) → length (graph ps .0) ≡ length (sinks ps) + length (graph ps .1)
-unfolding graph
-places-counted ps = omega (arith, grown (most-places ps) ps (popped ps) [] (sinks ps) [])
+unfolding graph build-ir-traversal-graph
+places-counted ps = simp length-map (omega (arith, grown (key ps) (most-places ps) ps (popped ps) [] (sinks ps) []))
 
 pub visits-counted : (sh : Sheet) (half whole : Run) → down sh ≡ done half → up half ≡ done whole
     → whole .tally .visits + length (half .removed) ≡ 2 * (length (sinks (sh .steps)) + length (whole .edges))

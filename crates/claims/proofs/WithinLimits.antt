@@ -1,5 +1,5 @@
 -- The limits of a run and of the finished sheet: at most 14080 bytes.
-use mathlib.Core.Path.{_≡_, sym, _∙_, subst}
+use mathlib.Core.Path.{_≡_, sym, _∙_, subst, ap}
 use Prim.Native.Nat.{ℕ, _*_, _≤_, _<_}
 use native.Mathlib.Omega.{arith}
 use mathlib.Core.List.{List, _∷_, _++_, List·Memᴰ, Memᴰ·append-left, Memᴰ·append-right}
@@ -9,6 +9,8 @@ use Rattle.plan.specs.Faults.{checked}
 use Rattle.plan.specs.Graph.{graph}
 use Rattle.plan.specs.Visit.{Run, no-edge, simplify-ir-node-orders}
 use Rattle.plan.specs.Walks.{begin, down, up, simplify-and-fetch-orderings}
+use Rattle.claims.proofs.MergedPlan.{updated-own}
+use Rattle.claims.proofs.Ends.{ends}
 use Rattle.plan.specs.Text.{printed, exprs-block, steps-block, edges-block, tally-line, expr-line, step-line, edge-line, blocks, joined}
 use Rattle.plan.specs.Finished.{run, finished}
 use Rattle.claims.specs.WellFormed.{Accepted}
@@ -97,16 +99,18 @@ kept-visit n ns r r′ (sound, p) e = (sound-visit n ns r r′ sound e, printabl
 
 module _ (s : List ℕ) (sh : Sheet) (accepted : Accepted s sh) where
   text-short : (out : List ℕ) → finished s ≡ done out → length out ≤ 14080
-  unfolding finished run simplify-and-fetch-orderings down up
+  unfolding finished run down up
   text-short out e =
       let wf = well-formed s sh accepted in
       let (r, e₁, e₂) = both-done (run s) (λ r. done (printed r)) e in
       let (sh₁, a, e₃) = both-done (read s then checked) simplify-and-fetch-orderings e₁ in
       let same : sh₁ ≡ sh = same-value (sym a ∙ accepted) in
-      let (half, d, u) = both-done (down sh) up (subst (λ (x : Sheet). simplify-and-fetch-orderings x ≡ done r) same e₃) in
-      let kept-half = walk-keeps Kept kept-visit (graph (sh .steps) .0) (begin sh) (sound-begin sh wf, printable-begin sh wf) d in
-      let kept = walk-keeps Kept kept-visit (half .back) half kept-half u in
-      subst (λ (l : List ℕ). length l ≤ 14080) (same-value e₂) (printed-short r (within-whole sh wf half r d u) (kept .1))
+      let x = ends sh r (subst (λ (x : Sheet). simplify-and-fetch-orderings x ≡ done r) same e₃) in
+      let half = x .half in
+      let kept-half = walk-keeps Kept kept-visit (graph (sh .steps) .0) (begin sh) (sound-begin sh wf, printable-begin sh wf) (x .down-ends) in
+      let kept = walk-keeps Kept kept-visit (half .back) half kept-half (x .up-ends) in
+      let own : x .whole ≡ r = sym (x .updates ∙ updated-own sh wf (x .whole)) in
+      subst (λ (l : List ℕ). length l ≤ 14080) (ap printed own ∙ same-value e₂) (printed-short (x .whole) (within-whole sh wf half (x .whole) (x .down-ends) (x .up-ends)) (kept .1))
 
 pub within-limits : Within-limits
 within-limits s sh accepted =

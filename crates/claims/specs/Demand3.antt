@@ -11,7 +11,7 @@ use Rattle.plan.specs.Lists.{yes?, concat-map, times}
 use Rattle.plan.specs.Sheet.{Expr, Sheet, done, step-at}
 use Rattle.plan.specs.Faults.{tree}
 use Rattle.plan.specs.Look.{Eos}
-use Rattle.plan.specs.Graph.{Edge, graph, sinks}
+use Rattle.plan.specs.Graph.{Edge, build-ir-traversal-graph, graph, sinks}
 use Rattle.plan.specs.Visit.{Run, simplify-ir-node-orders, looked-in, around, options-of, allow-deordering-top, is-out-of, no-edge}
 use Rattle.plan.specs.Walks.{begin, down, up, trace}
 use Rattle.plan.specs.Text.{line, edge-line, exprs-block, steps-block}
@@ -57,7 +57,7 @@ module _ (sh : Sheet) where
   abbrev pub Cache-after : ℕ → Type 0
   Cache-after n =
       (c : ℕ) × (step-at (sh .steps) c .kind ≡ IR.Cache) × (step-at (sh .steps) c .inputs ≡ n ∷ [])
-      × Stands-after c n (graph (sh .steps) .0)
+      × Stands-after c n (build-ir-traversal-graph (sh .steps) .0)
 
   -- a downward visit removes n
   abbrev pub Removed-down : ℕ → Type 0

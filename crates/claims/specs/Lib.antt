@@ -1,4 +1,5 @@
 pub mod WellFormed
+pub mod Plan
 pub mod LooksMade
 pub mod Demand3
 pub mod Limits

@@ -21,5 +21,5 @@ pub record Visitable (n : ℕ) (r : Run) : Type 0 where
   pub consumers : (k : ℕ) → k < length (r .edges) → getD (r .edges) k no-edge .consumer < length (r .steps)
   pub slots : (k : ℕ) → k < length (r .edges)
       → getD (r .edges) k no-edge .slot < length (step-at (r .steps) (getD (r .edges) k no-edge .consumer) .inputs)
-  -- a sort that goes has an input, which is a step
-  pub input : T (goes n r) → (1 ≤ length (step-at (r .steps) n .inputs)) × (getD (step-at (r .steps) n .inputs) 0 0 < 32)
+  -- a sort that goes has an input
+  pub input : T (goes n r) → 1 ≤ length (step-at (r .steps) n .inputs)

@@ -21,7 +21,9 @@ use Rattle.claims.specs.Demand1.{Demand-1, Finished-call, Refused-call}
 use Rattle.claims.specs.Demand3.{Finished-run}
 use Rattle.claims.proofs.Demand1.{demand-1, run-printed}
 use Rattle.claims.proofs.Demand3.{demand-3}
+use Rattle.claims.proofs.Ends.{walks-alone}
 use Rattle.plan.proofs.Outcomes.{same-value}
+use Rattle.claims.specs.Plan as claims-plan
 use Rattle.claims.proofs.Plans as plans
 use Rattle.claims.proofs.Taken.{well-formed}
 use Rattle.reading.specs.Held.{sheet}
@@ -79,7 +81,7 @@ plan-stored s es ps c k =
     }
 
 module _ (es : List ℕ) (m : ℕ) (ps : List ℕ) (n : ℕ) (k : Plan-stored es m ps n) where
-  pub steps-plan : plans.Plan (stored-steps ps n)
+  pub steps-plan : claims-plan.Plan (stored-steps ps n)
   steps-plan = plans.plan-of (sheet es m ps n) (k .formed)
 
   pub graph-made : (places consumer slot producer ins : List ℕ) (g : Graph) → Built (stored-steps ps n) places consumer slot producer ins g
@@ -96,8 +98,8 @@ module _ (es : List ℕ) (m : ℕ) (ps : List ℕ) (n : ℕ) (k : Plan-stored es
 -- What follows of the answer -----------------------------------------------------------------------------------------------------
 
 run-ends : (s : List ℕ) (sh : Sheet) (half whole : Run) → Accepted s sh → down sh ≡ done half → up half ≡ done whole → run s ≡ done whole
-unfolding run simplify-and-fetch-orderings _then_
-run-ends s sh half whole a d u = rw (a, d) u
+unfolding run _then_
+run-ends s sh half whole a d u = rw (a, walks-alone sh (well-formed s sh a), d) u
 
 -- the G lines stand behind the E and P lines, the T line behind them
 edge-lines : (r : Run) (behind : List ℕ)

@@ -139,7 +139,6 @@ pub fn finish_plan(
     let mut slot: [u8; 256] = [0; 256];
     let mut producer: [u8; 256] = [0; 256];
     let mut ins: [u8; 32] = [0; 32];
-    let mut outs: [u8; 32] = [0; 32];
     let g = build_ir_traversal_graph(
         steps,
         n_steps,
@@ -148,7 +147,6 @@ pub fn finish_plan(
         &mut slot,
         &mut producer,
         &mut ins,
-        &mut outs,
     );
     finish_graph(
         recs,

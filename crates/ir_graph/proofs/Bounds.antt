@@ -1,6 +1,7 @@
--- How many places and edges there can be, by the steps that are stored: step 0 has no input, and the others have at most 8.
-use mathlib.Core.Path.{_≡_, refl, ap}
-use Prim.Native.Nat.{ℕ, suc, _*_, _≤_, _<_}
+-- How many places and edges there can be, by the steps that are stored: one has no input, and the others have at most 8.
+use mathlib.Core.Path.{_≡_, refl, ap, sym, subst}
+use Prim.Native.Nat.{ℕ, zero, suc, _+_, _*_, _≤_, _<_}
+use native.Mathlib.Decide.{decLt}
 use native.Mathlib.Omega.{arith}
 use native.Mathlib.Nat.{not-suc-le-zero}
 use mathlib.Core.List.{List, [], _∷_, List·Memᴰ, List·Memᴰ·head}
@@ -13,7 +14,7 @@ use Rattle.plan.specs.Kinds.{same-ir}
 use Rattle.plan.specs.Graph.{sinks, is-cache}
 use Rattle.storage.specs.Stored.{stored-step, stored-steps, Step-formed}
 use Rattle.storage.proofs.Laws.{table-at, length-steps}
-use Rattle.claims.proofs.Plans.{Plan}
+use Rattle.claims.specs.Plan.{Plan}
 use Rattle.claims.proofs.Sizes.{few-sinks}
 use Rattle.ir_graph.specs.Turns.{cached}
 use Rattle.ir_graph.proofs.Inputs.{few-inputs}
@@ -23,15 +24,31 @@ unfolding named concat-map
 named-from [] h = omega arith
 named-from (x ∷ ps) h = simp length-append (omega (arith, h 0 (omega arith), named-from ps (λ i l. h (suc i) (omega arith))))
 
-none-there : (l : List ℕ) → ((m : ℕ) → List·Memᴰ m l → m < 0) → length l ≡ 0
-none-there [] h = refl
-none-there (x ∷ l) h = absurd (not-suc-le-zero (h x (List·Memᴰ·head refl)))
+-- with one step that names none
+named-but : (ps : List Step) (k : ℕ) → k < length ps → step-at ps k .inputs ≡ [] → ((i : ℕ) → i < length ps → length (step-at ps i .inputs) ≤ 8)
+    → length (named ps) + 8 ≤ 8 * length ps
+unfolding named concat-map
+named-but [] k l e h = absurd (not-suc-le-zero l)
+named-but (x ∷ ps) zero l e h = simp length-append (omega (arith, ap length e, named-from ps (λ i j. h (suc i) (omega arith))))
+named-but (x ∷ ps) (suc k) l e h =
+    simp length-append (omega (arith, h 0 (omega arith), named-but ps k (omega arith) e (λ i j. h (suc i) (omega arith))))
+
+-- some step names none: from any, its first input, that one's first, and so on
+source : (ps : List Step) (plan : Plan ps) (f n : ℕ) → n < length ps → plan .rank n < f → (k : ℕ) × (k < length ps) × (step-at ps k .inputs ≡ [])
+source ps plan zero n h l = absurd (not-suc-le-zero l)
+source ps plan (suc f) n h l = by (step-at ps n .inputs) refl (λ m i. source ps plan f m (plan .input-there n m i) (omega (arith, plan .lower n m i)))
+  where
+    by : (ms : List ℕ) → step-at ps n .inputs ≡ ms → ((m : ℕ) → List·Memᴰ m (step-at ps n .inputs) → (k : ℕ) × (k < length ps) × (step-at ps k .inputs ≡ []))
+        → (k : ℕ) × (k < length ps) × (step-at ps k .inputs ≡ [])
+    by [] e rec = (n, h, e)
+    by (m ∷ ms) e rec = rec m (subst (List·Memᴰ m) (sym e) (List·Memᴰ·head refl))
 
 few-named : (ps : List Step) → Plan ps → length ps ≤ 32 → ((i : ℕ) → i < length ps → length (step-at ps i .inputs) ≤ 8) → length (named ps) ≤ 248
-unfolding named concat-map
-few-named [] plan n h = omega arith
-few-named (x ∷ ps) plan n h =
-    simp length-append (omega (arith, none-there (x .inputs) (plan .earlier 0), named-from ps (λ i l. h (suc i) (omega arith))))
+few-named ps plan n h = by (decLt 0 (length ps))
+  where
+    by : Dec (0 < length ps) → length (named ps) ≤ 248
+    by (yes l) = let (k, there, e) = source ps plan (suc (plan .rank 0)) 0 l (omega arith) in omega (arith, named-but ps k there e h)
+    by (no l) = omega (arith, named-from ps h)
 
 -- Of the steps that are stored ---------------------------------------------------------------------------------------------------
 

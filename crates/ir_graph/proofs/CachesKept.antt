@@ -1,11 +1,10 @@
--- The walks keep which steps are Caches and how many inputs a step has, so update_cache_nodes may follow them, and changes nothing.
+-- The walks keep which steps are Caches and how many inputs a step has, so update_cache_nodes may follow them.
 use mathlib.Core.Path.{_≡_, refl, sym, ap, _∙_, subst}
 use mathlib.Core.Logic.{inl, inr}
 use mathlib.Core.List.{List}
 use Prim.Native.Nat.{ℕ}
-use native.Mathlib.Omega.{arith}
 use lib.Dec.{T}
-use lib.ListN.{length, getD}
+use lib.ListN.{length}
 use Rattle.plan.specs.declared.ir.IR.{IR}
 use Rattle.plan.specs.Kinds.{ir-number, same-ir}
 use Rattle.plan.specs.FunctionIR.{rust-functions}
@@ -15,18 +14,17 @@ use Rattle.plan.specs.declared.rules.Options.{Options}
 use Rattle.plan.specs.declared.rules.Around.{Around}
 use Rattle.plan.specs.declared.rules.Observable.{Observable}
 use Rattle.plan.specs.Visit.{Run, arm, rule, ruling, looked-in, looks-of, simplify-ir-node-orders}
-use Rattle.plan.specs.Walks.{begin, down, up, simplify-and-fetch-orderings}
+use Rattle.plan.specs.Walks.{begin, down, up}
 use Rattle.claims.specs.WellFormed.{WellFormed}
 use Rattle.plan.proofs.Booleans.{T-eq, all-at}
-use Rattle.claims.proofs.CacheIds.{one-line-each-id}
 use Rattle.plan.proofs.Outcomes.{both-done}
 use Rattle.claims.proofs.Rules.{ruled-by}
 use Rattle.claims.proofs.StepTable.{cache-has-one-input}
-use Rattle.plan.proofs.KindNumbers.{in-range, same-kind}
+use Rattle.plan.proofs.KindNumbers.{same-kind, in-range}
 use Rattle.claims.proofs.Visitables.{step-kept, inputs-kept}
 use Rattle.claims.proofs.Walks.{walk-keeps}
-use Rattle.ir_graph.specs.UpdateCaches.{first-lines, update-cache-nodes, Updatable}
-use Rattle.ir_graph.proofs.UpdateCaches.{first-cache, nothing-updated}
+use Rattle.ir_graph.specs.UpdateCaches.{first-lines, line-met, Updatable}
+use Rattle.ir_graph.proofs.UpdateCaches.{first-cache, first-own}
 
 -- A visit ------------------------------------------------------------------------------------------------------------------------
 
@@ -55,31 +53,26 @@ same-visit sent n ns r r′ s e =
       inputs = λ m. inputs-kept n r e m ∙ s .inputs m;
     }
 
-pub same-after : (sh : Sheet) (r : Run) → simplify-and-fetch-orderings sh ≡ done r → Same-caches (sh .steps) (r .steps)
-unfolding simplify-and-fetch-orderings down up begin
-same-after sh r e =
-    let Same : List ℕ → Run → Type 0 = λ ns q. Same-caches (sh .steps) (q .steps) in
-    let (half, first, second) = both-done (down sh) up e in
-    let there = walk-keeps Same (same-visit (sh .steps)) (graph (sh .steps) .0) (begin sh) (record { cache = λ m. refl; inputs = λ m. refl }) first in
-    walk-keeps Same (same-visit (sh .steps)) (half .back) half there second
+module _ (sh : Sheet) (half whole : Run) (goes-down : down sh ≡ done half) (goes-up : up half ≡ done whole) where
+  pub same-after : Same-caches (sh .steps) (whole .steps)
+  unfolding down up begin
+  same-after =
+      let Same : List ℕ → Run → Type 0 = λ ns q. Same-caches (sh .steps) (q .steps) in
+      let there = walk-keeps Same (same-visit (sh .steps)) (graph (sh .steps) .0) (begin sh) (record { cache = λ m. refl; inputs = λ m. refl }) goes-down in
+      walk-keeps Same (same-visit (sh .steps)) (half .back) half there goes-up
 
--- update_cache_nodes after them --------------------------------------------------------------------------------------------------
-
-module _ (sh : Sheet) (w : WellFormed sh) (r : Run) (e : simplify-and-fetch-orderings sh ≡ done r) where
-  pub updatable-after : Updatable (first-lines (sh .steps)) (r .steps)
-  updatable-after =
-      let same = same-after sh r e in
+  -- update_cache_nodes after them
+  pub updatable-after : WellFormed sh → Updatable (first-lines (sh .steps)) (whole .steps)
+  updatable-after w =
       record {
         input =
             λ m t.
-            let k = same-kind (step-at (sh .steps) m .kind) IR.Cache (subst T (same .cache m) t) in
+            let k = same-kind (step-at (sh .steps) m .kind) IR.Cache (sent m t) in
             let row = all-at in-step-table (sh .steps) no-step (w .steps-in-table) m (in-range (sh .steps) m (ap ir-number k)) in
-            omega (arith, same .inputs m, cache-has-one-input (step-at (sh .steps) m) k row);
-        cache =
-            λ m t.
-            subst T (sym (same .cache (getD (first-lines (sh .steps)) m 0))) (first-cache (sh .steps) m (subst T (same .cache m) t));
+            same-after .inputs m ∙ cache-has-one-input (step-at (sh .steps) m) k row;
+        cache = λ m t. subst T (sym (same-after .cache (line-met (first-lines (sh .steps)) m))) (first-cache (sh .steps) m (sent m t));
+        own = λ m t. first-own (sh .steps) m (sent m t);
       }
-
-  -- so the definition of the walks leaves it out
-  pub nothing-updated-after : update-cache-nodes (first-lines (sh .steps)) (r .steps) ≡ r .steps
-  nothing-updated-after = nothing-updated (sh .steps) (one-line-each-id sh w) (r .steps) (λ m t. subst T (same-after sh r e .cache m) t)
+    where
+      sent : (m : ℕ) → T (is-cache (whole .steps) m) → T (is-cache (sh .steps) m)
+      sent m t = subst T (same-after .cache m) t

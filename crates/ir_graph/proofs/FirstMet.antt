@@ -9,11 +9,13 @@ use lib.Dec.{eqb}
 use lib.ListN.{length, getD, take, drop, set, length-take, drop-of-length-le}
 use lib.Seq.{drop-cons, getD-take, getD-drop}
 use Rattle.plan.specs.Sheet.{Step, step-at, step-of}
-use Rattle.plan.specs.Graph.{popped}
+use Rattle.plan.specs.Graph.{one-id, first-met, popped, key}
 use Rattle.storage.specs.Stored.{table, stored-step, stored-steps}
-use Rattle.storage.proofs.Laws.{length-steps}
+use Rattle.storage.proofs.Laws.{length-steps, same-table}
+use Rattle.claims.specs.Plan.{Plan}
+use Rattle.claims.proofs.MergedPlan.{key-first}
 use Rattle.ir_graph.specs.Turns.{cached}
-use Rattle.ir_graph.specs.UpdateCaches.{one-id, first-met, first-lines}
+use Rattle.ir_graph.specs.UpdateCaches.{first-lines}
 use Rattle.ir_graph.proofs.Bounds.{step-there, cache-there}
 use Rattle.ir_graph.proofs.Pushing.{pushed-one, one-entry-more}
 
@@ -27,15 +29,18 @@ module _ (bytes : List ℕ) (n : ℕ) where
   unfolding stored-step step-of
   id-there i h = ap (λ (s : Step). s .a) (step-there bytes n i h) ∙ getD-drop (i * 32) bytes 1 0
 
-  module _ (k m : ℕ) (here : k < n) where
-    kind-first : (b : Bool) → cached bytes k ≡ b → one-id ps k m ≡ (b && eqb (step-at ps k .a) (step-at ps m .a))
-    kind-first b e = ap (λ (x : Bool). x && eqb (step-at ps k .a) (step-at ps m .a)) (cache-there bytes n k here ∙ e)
+  module _ (k m : ℕ) (here : k < n) (there : m < n) where
+    by-kinds : one-id ps k m ≡ (cached bytes k && cached bytes m && eqb (step-at ps k .a) (step-at ps m .a))
+    by-kinds = ap₂ (λ (x y : Bool). x && y && eqb (step-at ps k .a) (step-at ps m .a)) (cache-there bytes n k here) (cache-there bytes n m there)
 
     pub other-kind : cached bytes k ≡ false → false ≡ one-id ps k m
-    other-kind e = sym (kind-first false e)
+    other-kind e = rw (by-kinds, e)
 
-    pub by-id : m < n → cached bytes k ≡ true → eqb (getD bytes (k * 32 + 1) 0) (getD bytes (m * 32 + 1) 0) ≡ one-id ps k m
-    by-id there e = ap₂ (λ (x y : ℕ). eqb x y) (sym (id-there k here)) (sym (id-there m there)) ∙ sym (kind-first true e)
+    pub other-second : cached bytes k ≡ true → cached bytes m ≡ false → false ≡ one-id ps k m
+    other-second e f = rw (by-kinds, e, f)
+
+    pub by-id : cached bytes k ≡ true → cached bytes m ≡ true → eqb (getD bytes (k * 32 + 1) 0) (getD bytes (m * 32 + 1) 0) ≡ one-id ps k m
+    by-id e f = rw (by-kinds, e, f, id-there k here, id-there m there)
 
 -- Going through the steps met ----------------------------------------------------------------------------------------------------
 
@@ -73,9 +78,11 @@ pub one-noted : (f : ℕ → ℕ) (first : List ℕ) (m v : ℕ) → m < length 
 one-noted f first m v h e q =
     pushed-one first m v h .entries ∙ ap₂ (λ (l : List ℕ) (x : ℕ). l ++ (x ∷ [])) e q ∙ sym (one-entry-more f m)
 
-pub all-noted : (bytes : List ℕ) (n : ℕ) (met first : List ℕ) (m : ℕ) → met ≡ popped (stored-steps bytes n) → m ≡ n
+pub all-noted : (bytes : List ℕ) (n : ℕ) → Plan (stored-steps bytes n) → (met first : List ℕ) (m : ℕ) → met ≡ popped (stored-steps bytes n) → m ≡ n
     → take m first ≡ table (first-met (stored-steps bytes n) met) 0 m → take n first ≡ first-lines (stored-steps bytes n)
 unfolding first-lines
-all-noted bytes n met first m o e t =
+all-noted bytes n plan met first m o e t =
     ap (λ (k : ℕ). take k first) (sym e) ∙ t
     ∙ ap₂ (λ (l : List ℕ) (k : ℕ). table (first-met (stored-steps bytes n) l) 0 k) o (e ∙ sym (length-steps bytes n))
+    ∙ same-table (first-met (stored-steps bytes n) (popped (stored-steps bytes n))) (key (stored-steps bytes n)) (length (stored-steps bytes n))
+    (λ k h. sym (key-first (stored-steps bytes n) plan k))

@@ -14,13 +14,17 @@ use Rattle.plan.specs.Kinds.{same-ir}
 use Rattle.plan.specs.Lists.{if_then_else_, any?, sum, among, times}
 use Rattle.plan.specs.Sheet.{Step, step-at}
 use Rattle.plan.specs.Faults.{named}
-use Rattle.plan.specs.Graph.{sinks, is-cache, most-places, pushes, pop, popped}
+use Rattle.plan.specs.Graph.{sinks, is-cache, most-places, key, hits}
+use Rattle.plan.specs.Graph as def
 use Rattle.storage.specs.Stored.{stored-step, stored-steps, Step-formed}
 use Rattle.plan.proofs.ListLaws.{sum-append}
 use Rattle.storage.proofs.Laws.{length-steps}
 use Rattle.plan.proofs.Booleans.{T-eq}
-use Rattle.plan.proofs.Counts.{sum-reverse, sum-le, sum-ones, times-same, times-other, mem-reverse, mem-at, only, among-times, times-among}
-use Rattle.claims.proofs.Plans.{Plan, root-there, input-there, cache-named}
+use Rattle.plan.proofs.Counts.{T-of, not-both, sum-reverse, sum-le, sum-ones, times-same, times-other, mem-reverse, mem-at, only, among-times, times-among}
+use Rattle.claims.specs.Plan.{Plan}
+use Rattle.claims.proofs.ByLine.{pushes, pop, popped}
+use Rattle.claims.proofs.MergedPlan.{popped-own, hits-own}
+use Rattle.claims.proofs.Plans.{root-there, input-there, cache-named}
 use Rattle.claims.proofs.Reached.{followed-le, followed-none}
 use Rattle.claims.proofs.Hits.{Counted, counted-next}
 use Rattle.ir_graph.specs.Pushed.{Pushed}
@@ -41,6 +45,7 @@ pub record Popping (ps : List Step) (stack counts order : List ℕ) (len turns :
   pub counted : Counted ps met (reverse (take len stack))
   pub there : (m : ℕ) → List·Memᴰ m (take len stack) → m < length ps
   pub caches : (m : ℕ) → T (is-cache ps m) → getD counts m 0 ≡ times m met
+  pub others : (m : ℕ) → is-cache ps m ≡ false → getD counts m 0 ≡ 0
   pub room : length stack ≡ 288
   pub fits : len ≤ 288
   pub size : length counts ≡ 32
@@ -96,6 +101,7 @@ module _ (bytes : List ℕ) (n : ℕ) (small : n ≤ 32) (plan : Plan (stored-st
         counted = rw (p .entries) (λ w. omega (arith, none w, sum-reverse w (sinks ps), followed-none w ps (λ n. among n []) (λ n. refl)));
         there = rw (p .entries) (root-there ps plan);
         caches = λ m t. z m;
+        others = λ m e. z m;
         room = p .size ∙ r;
         fits = omega (arith, p .len, roots bytes n small plan formed);
         size = s;
@@ -115,16 +121,20 @@ module _ (bytes : List ℕ) (n : ℕ) (small : n ≤ 32) (plan : Plan (stored-st
         by (suc f) q = q
 
     pub hits-ended : Hits-counted ps counts
-    hits-ended = record { size = p .size; caches = λ m t. rw (← all-met) (p .caches m t) }
+    hits-ended = record { size = p .size; of-line = λ m. by m (is-cache ps m) refl }
+      where
+        by : (m : ℕ) (b : Bool) → is-cache ps m ≡ b → getD counts m 0 ≡ (if b then hits (key ps) (def.popped ps) m else 0)
+        by m true e = p .caches m (T-of (is-cache ps m) e) ∙ ap (times m) all-met ∙ sym (hits-own ps plan m)
+        by m false e = p .others m e
 
-    pub turns-ended : turns ≡ length (popped ps)
-    turns-ended = p .popped-so-far ∙ ap length all-met
+    pub turns-ended : turns ≡ length (def.popped ps)
+    turns-ended = p .popped-so-far ∙ ap length (all-met ∙ sym (popped-own ps plan))
 
     pub noted-ended : Met-noted ps order turns
     noted-ended =
         let few : turns ≤ 288 = omega (arith, p .popped-so-far, p .left, namings bytes n small plan formed, roots bytes n small plan formed) in
         record {
-          order = p .noted ∙ all-met;
+          order = p .noted ∙ all-met ∙ sym (popped-own ps plan);
           few = few;
           there =
               λ k h.
@@ -230,6 +240,16 @@ module _ (bytes : List ℕ) (n : ℕ) (small : n ≤ 32) (plan : Plan (stored-st
             let none : times m (top ∷ []) ≡ 0 = times-other m top [] h in
             other (cached bytes top) h ∙ omega (arith, p .caches m t, more, none)
 
+    others-next : (m : ℕ) → is-cache ps m ≡ false → getD (hit bytes counts top) m 0 ≡ 0
+    unfolding hit
+    others-next m e = by (cached bytes top) refl
+      where
+        by : (b : Bool) → cached bytes top ≡ b → getD (if b then set counts top (getD counts top 0 + 1) else counts) m 0 ≡ 0
+        by true c =
+            let apart : m ≢ top = λ i. not-both (is-cache ps m) (T-of (is-cache ps m) (ap (is-cache ps) i ∙ cache-there bytes n top top-there ∙ c)) e in
+            getD-set-other counts top m (getD counts top 0 + 1) 0 apart ∙ p .others m e
+        by false c = p .others m e
+
     pub popping-next : (stack′ counts′ : List ℕ) (r : ℕ) → Pushed new stack k stack′ r → counts′ ≡ hit bytes counts top
         → Popping ps stack′ counts′ (set order turns top) r (turns + 1)
     unfolding pop hit pushes
@@ -259,6 +279,7 @@ module _ (bytes : List ℕ) (n : ℕ) (small : n ≤ 32) (plan : Plan (stored-st
                 | inr j ↦ pushed-there m j
               ];
           caches = λ m t. rw h (counts-next m t);
+          others = λ m i. rw h (others-next m i);
           room = q .size ∙ p .room;
           fits = omega (arith, q .len, room-new);
           size = rw h (size-after (cached bytes top));

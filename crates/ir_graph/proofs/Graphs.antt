@@ -6,16 +6,17 @@ use mathlib.Core.List.{List, _++_}
 use lib.ListN.{length, getD, set}
 use Rattle.plan.specs.Sheet.{Step}
 use Rattle.plan.specs.Faults.{named}
-use Rattle.plan.specs.Graph.{edges-into, sinks}
+use Rattle.plan.specs.Graph.{Edge, sinks}
 use Rattle.storage.specs.Stored.{table, stored-steps, Step-formed}
-use Rattle.claims.proofs.Plans.{Plan}
+use Rattle.claims.specs.Plan.{Plan}
+use Rattle.claims.proofs.ByLine.{edges-into}
 use Rattle.ir_graph.specs.Pushed.{Pushed}
 use Rattle.ir_graph.specs.Turns.{followed-by, used}
 use Rattle.ir_graph.specs.Hits.{Hits-counted}
 use Rattle.ir_graph.specs.Edges.{edges-of, Linked}
 use Rattle.ir_graph.specs.Built.{Built}
 use Rattle.ir_graph.proofs.Bounds.{namings}
-use Rattle.ir_graph.proofs.Linking.{length-edges, between}
+use Rattle.ir_graph.proofs.Linking.{length-edges, between, same-into}
 use Rattle.ir_graph.proofs.There.{place-there, consumer-there, slot-there, producer-there}
 use Rattle.ir_graph.proofs.SecondPass.{Growing, Turn, past-of, begins, turn, turns-left, gone, just-pushed, growing-next, grown}
 use Rattle.ir_graph.proofs.Rows.{Rows, no-rows, rows-next, all-rows}
@@ -29,11 +30,11 @@ module _ (bytes : List ℕ) (n : ℕ) (small : n ≤ 32) (plan : Plan (stored-st
   abbrev ps : List Step
   ps = stored-steps bytes n
 
-  pub placing : (places places₀ counts c s p firsts : List ℕ) (len : ℕ) → length places₀ ≡ 288 → length firsts ≡ 32 → Hits-counted ps counts
+  pub placing : (places places₀ counts c s p firsts : List ℕ) (len : ℕ) → length places₀ ≡ 288 → length firsts ≡ 32 → ((m : ℕ) → getD firsts m 0 ≡ 0) → Hits-counted ps counts
       → Pushed (sinks ps) places₀ 0 places len → Placing ps places counts c s p firsts len 0 0
   unfolding edges-of table
-  placing places places₀ counts c s p firsts len h k hits q =
-      record { growing = begins bytes n small plan formed places places₀ counts len h hits q; rows = no-rows ps plan firsts k }
+  placing places places₀ counts c s p firsts len h k z hits q =
+      record { growing = begins bytes n small plan formed places places₀ counts len h hits q; rows = no-rows ps plan firsts k z }
 
   module _ (places counts c s p firsts : List ℕ) (len edges i : ℕ) (g : Placing ps places counts c s p firsts len edges i) (h : i < len) where
     pub turn-at : Turn bytes n counts len edges (getD places i 0)
@@ -50,7 +51,7 @@ module _ (bytes : List ℕ) (n : ℕ) (small : n ≤ 32) (plan : Plan (stored-st
         let new = followed-by bytes counts (getD places i 0) in
         let pushed = just-pushed bytes n small plan formed places counts es len i (g .growing) h places′ counts′ len′ q in
         let now : edges-of c′ s′ p′ edges′ ≡ es ++ edges-into (getD places i 0) new =
-        l .edges ∙ ap (λ (ms : List ℕ). es ++ edges-into (getD places i 0) ms) pushed in
+        l .edges ∙ ap (λ (x : List Edge). es ++ x) (same-into (getD places i 0) (between len len′ places′) ∙ ap (edges-into (getD places i 0)) pushed) in
         record {
           growing = rw now (growing-next bytes n small plan formed places counts es len i (g .growing) h places′ counts′ len′ q u);
           rows =

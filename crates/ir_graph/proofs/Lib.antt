@@ -8,7 +8,6 @@ pub mod SecondPass
 pub mod Rows
 pub mod There
 pub mod Graphs
-pub mod Outs
 pub mod NodeKey
 pub mod FirstMet
 pub mod UpdateCaches

@@ -10,6 +10,7 @@ use Rattle.plan.specs.Lists.{numbered}
 use Rattle.plan.specs.Graph.{Edge, edges-into}
 use Rattle.storage.proofs.Laws.{length-table, same-table}
 use Rattle.ir_graph.specs.Edges.{made, edges-of, Linked}
+use Rattle.claims.proofs.ByLine as by-line
 use Rattle.ir_graph.proofs.Pushing.{one-entry-more}
 
 pub length-edges : (c s p : List ℕ) (e : ℕ) → length (edges-of c s p e) ≡ e
@@ -39,11 +40,16 @@ map-more : {A B : Type 0} (f : A → B) (l : List A) (a : A) → map f (l ++ (a 
 map-more f [] a = refl
 map-more f (x ∷ l) a = ap (λ r. f x ∷ r) (map-more f l a)
 
-into-more : (n k : ℕ) (ms : List ℕ) → k < length ms → edges-into n (take (k + 1) ms) ≡ edges-into n (take k ms) ++ (made n k (getD ms k 0) ∷ [])
+into-more : (n k : ℕ) (ms : List ℕ) → k < length ms → edges-into (λ j. j) n (take (k + 1) ms) ≡ edges-into (λ j. j) n (take k ms) ++ (made n k (getD ms k 0) ∷ [])
 unfolding edges-into
 into-more n k ms h =
     let e : 0 + length (take k ms) ≡ k = simp length-take (omega arith) in
     rw (add-one, take-suc ms k 0 h, numbered-more 0 (take k ms) (getD ms k 0), e) (map-more (λ (k, m). made n k m) (numbered 0 (take k ms)) (k, getD ms k 0))
+
+-- a step that is its own key
+pub same-into : (n : ℕ) (ms : List ℕ) → edges-into (λ j. j) n ms ≡ by-line.edges-into n ms
+unfolding edges-into by-line.edges-into
+same-into n ms = refl
 
 -- A loop over the inputs, that are the places from a to b -------------------------------------------------------------------------
 
@@ -55,7 +61,7 @@ length-between a b places h = simp (length-drop, length-take) (omega arith)
 
 module _ (n a b : ℕ) (places c s p : List ℕ) (e : ℕ) where
   abbrev pub So-far : ℕ → List ℕ → List ℕ → List ℕ → Type 0
-  So-far k c′ s′ p′ = edges-of c′ s′ p′ (e + k) ≡ edges-of c s p e ++ edges-into n (take k (between a b places))
+  So-far k c′ s′ p′ = edges-of c′ s′ p′ (e + k) ≡ edges-of c s p e ++ edges-into (λ j. j) n (take k (between a b places))
 
   pub none-linked : So-far 0 c s p
   unfolding edges-into numbered
@@ -67,7 +73,7 @@ module _ (n a b : ℕ) (places c s p : List ℕ) (e : ℕ) where
       let z : e + (k + 1) ≡ e + k + 1 = omega arith in
       let v : getD (between a b places) k 0 ≡ getD places (a + k) 0 = getD-drop a (take b places) k 0 ∙ getD-take b places (a + k) 0 (omega arith) in
       rw (z, r, q, into-more n k (between a b places) (omega (arith, length-between a b places h)), v)
-      (append-assoc (edges-of c s p e) (edges-into n (take k (between a b places))) (made n k (getD places (a + k) 0) ∷ []))
+      (append-assoc (edges-of c s p e) (edges-into (λ j. j) n (take k (between a b places))) (made n k (getD places (a + k) 0) ∷ []))
 
   pub all-linked : (k : ℕ) (c′ s′ p′ : List ℕ) → b ≤ length places → k ≡ b - a → So-far k c′ s′ p′ → Linked n (between a b places) c s p e c′ s′ p′ (e + (b - a))
   all-linked k c′ s′ p′ h l q =

@@ -1,27 +1,30 @@
 -- The edges into a step are made in a row, where its inputs follow.
 use mathlib.Core.Path.{_≡_, refl, sym, ap, _∙_, subst}
-use mathlib.Core.Logic.{_≢_}
+use mathlib.Core.Logic.{inl, inr, _≢_}
 use Prim.Native.Nat.{ℕ, suc, _+_, _≤_, _<_}
 use native.Mathlib.Omega.{arith}
 use native.Mathlib.Decide.{ℕ-discrete}
 use mathlib.Core.Bool.{Bool, true, false, _||_, not}
 use mathlib.Core.List.{List, [], _∷_, _++_, map, append-nil}
 use lib.Dec.{T, eqb, eqb→eq}
-use lib.ListN.{length, getD, take, drop, set, length-append, length-drop, length-set}
+use lib.ListN.{length, getD, take, drop, set, length-append, length-drop, length-map, length-set}
 use lib.Seq.{take-all, take-append-le, drop-append-le, drop-append-seam, getD-set-same, getD-set-other}
 use Rattle.plan.specs.Lists.{if_then_else_, select, sum, numbered, times}
 use Rattle.plan.specs.Sheet.{Step, step-at}
 use Rattle.plan.specs.Faults.{named}
-use Rattle.plan.specs.Graph.{Edge, graph, popped, hits, opens, following, edges-into, sinks, is-cache}
+use Rattle.plan.specs.Graph.{Edge, graph, sinks, is-cache}
 use Rattle.plan.specs.Visit.{is-into}
 use Rattle.storage.specs.Stored.{stored-steps, Step-formed}
 use Rattle.plan.proofs.Booleans.{differ, equal}
 use Rattle.plan.proofs.Counts.{false-of, true-of, sum-reverse, times-same, times-other, same-number, only}
-use Rattle.claims.proofs.Plans.{Plan, cache-named}
+use Rattle.claims.specs.Plan.{Plan}
+use Rattle.claims.proofs.ByLine.{popped, hits, opens, following, edges-into}
+use Rattle.claims.proofs.MergedPlan.{ordered-own}
+use Rattle.claims.proofs.Plans.{cache-named}
 use Rattle.claims.proofs.Reached.{followed-le}
 use Rattle.claims.proofs.Hits.{hits-named}
-use Rattle.claims.proofs.Visits.{length-edges-into}
-use Rattle.claims.proofs.Places.{opened, graph-ordered}
+use Rattle.claims.proofs.Visits.{length-numbered}
+use Rattle.claims.proofs.Places.{opened}
 use Rattle.ir_graph.specs.Edges.{made}
 use Rattle.ir_graph.specs.Built.{In-row}
 use Rattle.ir_graph.proofs.SecondPass.{Growing, past-of, rest, new, counted-top, following-new, top-there, grown}
@@ -63,6 +66,10 @@ no-edges : (n : ℕ) → edges-into n [] ≡ []
 unfolding edges-into numbered
 no-edges n = refl
 
+length-made : (n : ℕ) (ms : List ℕ) → length (edges-into n ms) ≡ length ms
+unfolding edges-into
+length-made n ms = simp (length-map, length-numbered)
+
 -- Rows ---------------------------------------------------------------------------------------------------------------------------
 
 -- how many places a step has in all
@@ -75,11 +82,16 @@ pub record Rows (ps : List Step) (gone : List ℕ) (es : List Edge) (firsts : Li
   pub unmade : (m : ℕ) → times m gone < total ps m → select (is-into m) es ≡ []
   pub size : length firsts ≡ 32
 
-pub no-rows : (ps : List Step) (plan : Plan ps) (firsts : List ℕ) → length firsts ≡ 32 → Rows ps [] [] firsts
+pub no-rows : (ps : List Step) (plan : Plan ps) (firsts : List ℕ) → length firsts ≡ 32 → ((m : ℕ) → getD firsts m 0 ≡ 0) → Rows ps [] [] firsts
 unfolding sum select
-no-rows ps plan firsts s =
+no-rows ps plan firsts s z =
     record {
-      closed = λ m l h. absurd (omega (arith, plan .rooted m l));
+      closed =
+          λ m l h.
+          elim (plan .rooted m l) [
+            | inl r ↦ absurd (omega arith)
+            | inr e ↦ record { row = rw e; fits = omega (arith, z m, ap length e) }
+          ];
       unmade = λ m h. refl;
       size = s;
     }
@@ -151,7 +163,7 @@ module _ (bytes : List ℕ) (n : ℕ) (small : n ≤ 32) (plan : Plan (stored-st
 
     opened-now : select (is-into here) es ≡ [] → inputs ≡ step-at all-steps here .inputs → In-row all-steps (es ++ made-here) here (length es)
     opened-now none v =
-        let size : length made-here ≡ length (step-at all-steps here .inputs) = length-edges-into here inputs ∙ ap length v in
+        let size : length made-here ≡ length (step-at all-steps here .inputs) = length-made here inputs ∙ ap length v in
         record {
           row =
               rw (select-append (is-into here) es made-here, none, own-edges here inputs, drop-append-seam es made-here)
@@ -200,6 +212,6 @@ module _ (bytes : List ℕ) (n : ℕ) (small : n ≤ 32) (plan : Plan (stored-st
       let q = stored-steps bytes n in
       let (a, b) = grown bytes n small plan formed places counts es len i g h in
       let same : i ≡ len = omega (arith, g .order) in
-      let all = graph-ordered q plan .placed-all (only m) in
+      let all = ordered-own q plan .placed-all (only m) in
       let gone : times m (past-of places i) ≡ times m (graph q .0) = rw same (sum-reverse (only m) (take len places) ∙ ap (times m) a) in
       rw (← b) (r .closed m l (omega arith))

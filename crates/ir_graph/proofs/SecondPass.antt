@@ -14,12 +14,16 @@ use Rattle.plan.specs.Kinds.{same-ir}
 use Rattle.plan.specs.Lists.{if_then_else_, sum, times}
 use Rattle.plan.specs.Sheet.{Step, step-at}
 use Rattle.plan.specs.Faults.{named}
-use Rattle.plan.specs.Graph.{Edge, graph, grow, popped, hits, opens, following, edges-into, sinks, is-cache, most-places}
+use Rattle.plan.specs.Graph.{Edge, sinks, is-cache, most-places}
+use Rattle.plan.specs.Graph as def
 use Rattle.storage.specs.Stored.{stored-step, stored-steps, Step-formed}
 use Rattle.storage.proofs.Laws.{length-steps}
 use Rattle.plan.proofs.Booleans.{T-eq, equal}
-use Rattle.plan.proofs.Counts.{sum-ones, times-same, times-other, only}
-use Rattle.claims.proofs.Plans.{Plan, root-there, input-there, cache-named}
+use Rattle.plan.proofs.Counts.{true-of, sum-ones, times-same, times-other, only}
+use Rattle.claims.specs.Plan.{Plan}
+use Rattle.claims.proofs.ByLine.{graph, grow, popped, hits, opens, following, edges-into}
+use Rattle.claims.proofs.MergedPlan.{hits-own, graph-own}
+use Rattle.claims.proofs.Plans.{root-there, input-there, cache-named}
 use Rattle.claims.proofs.Reached.{followed-le, followed-none}
 use Rattle.claims.proofs.Hits.{hits-named}
 use Rattle.claims.proofs.Visits.{length-numbered}
@@ -78,7 +82,7 @@ module _ (bytes : List ℕ) (n : ℕ) (small : n ≤ 32) (plan : Plan (stored-st
         ends = rw (p .entries);
         counted = rw (p .entries) (λ w. omega (arith, followed-none w ps (opened ps []) (none-opened ps plan)));
         there = rw (p .entries) (root-there ps plan);
-        caches = λ m t. omega (arith, h .caches m t);
+        caches = λ m t. omega (arith, h .of-line m, ap (λ (b : Bool). if b then def.hits (def.key ps) (def.popped ps) m else 0) (true-of (is-cache ps m) t), hits-own ps plan m);
         made = omega (arith, p .len);
         order = omega arith;
         fits = omega (arith, p .len, roots bytes n small plan formed);
@@ -273,9 +277,9 @@ module _ (bytes : List ℕ) (n : ℕ) (small : n ≤ 32) (plan : Plan (stored-st
   -- The end of the list ------------------------------------------------------------------------------------------------------------
 
   pub grown : (places counts : List ℕ) (es : List Edge) (len i : ℕ) → Growing ps places counts es len i → len ≤ i
-      → (take len places ≡ graph ps .0) × (es ≡ graph ps .1)
+      → (take len places ≡ def.graph ps .0) × (es ≡ def.graph ps .1)
   unfolding grow
-  grown places counts es len i g h = by (g .fuel) (rw (same, nothing) at (g .ends))
+  grown places counts es len i g h = subst (λ (x : List ℕ × List Edge). (take len places ≡ x .0) × (es ≡ x .1)) (sym (graph-own ps plan)) (by (g .fuel) (rw (same, nothing) at (g .ends)))
     where
       same : i ≡ len
       same = omega (arith, g .order)

@@ -15,8 +15,9 @@ use Rattle.storage.proofs.Laws.{table-at}
 use Rattle.plan.proofs.Counts.{mem-at, mem-concat, times-of, stands-in, only}
 use Rattle.claims.proofs.Edges.{same-some}
 use Rattle.claims.proofs.StepTable.{has-inputs}
-use Rattle.claims.proofs.Plans.{Plan, root-there, input-there}
-use Rattle.claims.proofs.Places.{graph-ordered}
+use Rattle.claims.specs.Plan.{Plan}
+use Rattle.claims.proofs.Plans.{root-there, input-there}
+use Rattle.claims.proofs.MergedPlan.{ordered-own}
 use Rattle.ir_graph.specs.Edges.{made, edges-of}
 use Rattle.ir_graph.proofs.Linking.{length-edges}
 
@@ -34,7 +35,7 @@ module _ (ps : List Step) (c s p : List ℕ) (e : ℕ) (edges : edges-of c s p e
   module _ (plan : Plan ps) (k : ℕ) (h : k < e) where
     -- an edge comes from the input that its slot names
     from-input : (getD s k 0 < length (step-at ps (getD c k 0) .inputs)) × (some (getD p k 0) ≡ some (getD (step-at ps (getD c k 0) .inputs) (getD s k 0) 0))
-    from-input = rw (edge-at k h) at (graph-ordered ps plan .made (getD (graph ps .1) k no-edge) (mem-at (graph ps .1) k no-edge (omega (arith, length-graph))))
+    from-input = rw (edge-at k h) at (ordered-own ps plan .made (getD (graph ps .1) k no-edge) (mem-at (graph ps .1) k no-edge (omega (arith, length-graph))))
 
     pub slot-there : getD s k 0 < length (step-at ps (getD c k 0) .inputs)
     slot-there = from-input .0
@@ -63,4 +64,4 @@ module _ (ps : List Step) (plan : Plan ps) where
   place-there places len l e k h =
       let m = getD places k 0 in
       let i : List·Memᴰ m (take len places) = rw (getD-take len places k 0 h) at (mem-at (take len places) k 0 (simp length-take (omega arith))) in
-      line-there m (omega (arith, times-of m (graph ps .0) (rw e at i), graph-ordered ps plan .placed-all (only m)))
+      line-there m (omega (arith, times-of m (graph ps .0) (rw e at i), ordered-own ps plan .placed-all (only m)))

@@ -1,28 +1,33 @@
--- update_cache_nodes: the ways through it, its loop, and that it changes nothing where each cache id has one line.
+-- update_cache_nodes: the ways through it, and its loop, which comes to the definition's.
 use mathlib.Core.Path.{_≡_, refl, sym, ap, _∙_, subst}
+use mathlib.Core.Logic.{_≢_}
 use mathlib.Core.List.{List, [], _∷_}
 use Prim.Native.Nat.{ℕ, zero, suc, _+_, _*_, _≤_, _<_}
 use native.Mathlib.Omega.{arith}
 use native.Mathlib.Numerals.{add-one}
+use native.Mathlib.Nat.{not-suc-le-zero, le-refl}
+use native.Mathlib.Decide.{ℕ-discrete, decLt}
 use mathlib.Core.Bool.{Bool, true, false}
-use lib.Dec.{T, eqb, eqb→eq}
-use lib.ListN.{length, getD, take, set, length-set}
-use lib.Seq.{getD-take, set-getD}
+use lib.Dec.{T}
+use lib.ListN.{length, getD, take, set, length-map, length-set}
+use lib.Seq.{getD-take, getD-set-same, getD-set-other, ext-getD}
 use Rattle.plan.specs.declared.ir.IR.{IR}
 use Rattle.plan.specs.Kinds.{ir-number, same-ir}
 use Rattle.plan.specs.Lists.{if_then_else_}
 use Rattle.plan.specs.Sheet.{Step, no-step, step-at}
-use Rattle.plan.specs.Graph.{is-cache, popped}
+use Rattle.plan.specs.Graph.{is-cache, key, update-cache-nodes}
 use Rattle.storage.specs.Stored.{stored-steps, Step-formed}
 use Rattle.storage.proofs.Laws.{table-at, length-steps}
 use Rattle.storage.proofs.Changes.{formed-still, input-stored}
 use Rattle.plan.specs.Visit.{with-input}
-use Rattle.plan.proofs.ListLaws.{and-left, and-right}
 use Rattle.claims.proofs.Stays.{reads-kept}
 use Rattle.claims.proofs.StepTable.{has-inputs}
-use Rattle.plan.proofs.KindNumbers.{in-range, same-kind}
+use Rattle.plan.proofs.KindNumbers.{same-kind, in-range}
+use Rattle.claims.proofs.Visits.{length-numbered}
+use Rattle.claims.proofs.Keys.{key-key, key-cache}
+use Rattle.claims.proofs.Merged.{at-numbered}
 use Rattle.ir_graph.specs.Turns.{cached}
-use Rattle.ir_graph.specs.UpdateCaches.{one-id, first-met, first-lines, update-cache-node, update-lines, update-cache-nodes, Updatable}
+use Rattle.ir_graph.specs.UpdateCaches.{first-lines, line-met, update-cache-node, Updatable}
 use Rattle.ir_graph.proofs.Bounds.{step-there, cache-there}
 use Rattle.ir_graph.proofs.Inputs.{input-count, input-at}
 
@@ -56,8 +61,9 @@ module _ (first : List ℕ) (ps : List Step) (m : ℕ) where
   updatable-still : Updatable first ps → Updatable first (update-cache-node first ps m)
   updatable-still u =
       record {
-        input = λ n t. omega (arith, kept (λ s. length (s .inputs)) (λ v s. length-set (s .inputs) 0 v) n, u .input n (subst T (cache-kept n) t));
+        input = λ n t. kept (λ s. length (s .inputs)) (λ v s. length-set (s .inputs) 0 v) n ∙ u .input n (subst T (cache-kept n) t);
         cache = λ n t. subst T (sym (cache-kept (getD first n 0))) (u .cache n (subst T (cache-kept n) t));
+        own = λ n t. u .own n (subst T (cache-kept n) t);
       }
 
 -- where it is stored
@@ -75,7 +81,7 @@ module _ (bytes : List ℕ) (n : ℕ) (first : List ℕ) (m : ℕ) (small : n �
       (t, subst (λ (k : ℕ). T (is-cache ps k)) (getD-take n first m 0 here) (u .cache m t))
 
   pub line-there : line < n
-  line-there = omega (arith, length-steps bytes n, has-inputs ps line (u .input line (caches .1)))
+  line-there = omega (arith, length-steps bytes n, has-inputs ps line (omega (arith, u .input line (caches .1))))
 
   has-input : (i : ℕ) → i < n → T (is-cache ps i) → 0 < getD bytes (i * 32 + 4) 0
   has-input i h t =
@@ -106,7 +112,19 @@ module _ (bytes : List ℕ) (n : ℕ) (first : List ℕ) (m : ℕ) (small : n �
       formed-still bytes m i 7 (getD bytes (line * 32 + 7) 0) (omega arith) (λ q. omega (arith, q)) (λ q. omega (arith, q)) (λ q. omega (arith, q)) (λ _ q. absurd (omega (arith, q)))
       (omega arith) (formed i h)
 
+one-entry : (xs ys : List ℕ) → length xs ≡ 1 → length ys ≡ 1 → set xs 0 (getD ys 0 0) ≡ ys
+one-entry (x ∷ []) (y ∷ []) e f = refl
+one-entry [] ys e f = absurd (omega (arith, e))
+one-entry (x ∷ x′ ∷ xs) ys e f = absurd (omega (arith, e))
+one-entry (x ∷ []) [] e f = absurd (omega (arith, f))
+one-entry (x ∷ []) (y ∷ y′ ∷ ys) e f = absurd (omega (arith, f))
+
 -- The loop -----------------------------------------------------------------------------------------------------------------------
+
+-- k lines
+unfoldable pub update-lines : List ℕ → List Step → ℕ → List Step
+update-lines first ps zero = ps
+update-lines first ps (suc k) = update-cache-node first (update-lines first ps k) k
 
 module _ (first : List ℕ) (ps : List Step) where
   pub no-lines : ps ≡ update-lines first ps 0
@@ -119,96 +137,112 @@ module _ (first : List ℕ) (ps : List Step) where
   unfolding update-lines
   next-line m qs rs u e f = (rw f (updatable-still first qs m u), rw (f, add-one, e))
 
-  pub all-lines : (m : ℕ) {qs : List Step} → m ≡ length ps → qs ≡ update-lines first ps m → qs ≡ update-cache-nodes first ps
-  unfolding update-cache-nodes
-  all-lines m e q = rw (← e) q
+  length-lines : (k : ℕ) → length (update-lines first ps k) ≡ length ps
+  unfolding update-lines update-cache-node
+  length-lines zero = refl
+  length-lines (suc k) = by (is-cache qs k) ∙ length-lines k
+    where
+      qs : List Step
+      qs = update-lines first ps k
+
+      by : (b : Bool) → length (if b then set qs k (with-input 0 (updated-input first qs k) (step-at qs k)) else qs) ≡ length qs
+      by true = length-set qs k _
+      by false = refl
+
+  -- Line by line or all at once: a line that others take from was met first, so it takes its own input, updated or not --------------
+
+  module _ (u : Updatable first ps) where
+    -- line n with the inputs of the line met first
+    abbrev after : ℕ → Step → Step
+    after n s =
+        let met = if same-ir (s .kind) IR.Cache then step-at ps (line-met first n) else s in
+        record { kind = s .kind; a = s .a; b = s .b; c = s .c; inputs = met .inputs; exprs = s .exprs; aggs = s .aggs }
+
+    -- the first k lines are so already, the others as they were
+    Lines : ℕ → List Step → Type 0
+    Lines k qs = (n : ℕ) → (n < k → step-at qs n ≡ after n (step-at ps n)) × (k ≤ n → step-at qs n ≡ step-at ps n)
+
+    module _ (k : ℕ) (qs : List Step) (size : length qs ≡ length ps) (lines : Lines k qs) where
+      abbrev s : Step
+      s = step-at ps k
+
+      abbrev first-line : ℕ
+      first-line = line-met first k
+
+      taken : T (is-cache ps k) → step-at qs first-line .inputs ≡ step-at ps first-line .inputs
+      unfolding Lines
+      taken t = by (decLt first-line k)
+        where
+          own : (b : Bool) → T b → (if b then step-at ps (line-met first first-line) else step-at ps first-line) .inputs ≡ step-at ps first-line .inputs
+          own true c = ap (λ (n : ℕ). step-at ps n .inputs) (u .own k t)
+          own false c = absurd c
+
+          by : Dec (first-line < k) → step-at qs first-line .inputs ≡ step-at ps first-line .inputs
+          by (yes h) = ap (λ (x : Step). x .inputs) (lines first-line .0 h) ∙ own (is-cache ps first-line) (u .cache k t)
+          by (no h) = ap (λ (x : Step). x .inputs) (lines first-line .1 (omega arith))
+
+      line-now : step-at (update-cache-node first qs k) k ≡ after k s
+      unfolding update-cache-node Lines
+      line-now =
+          ap (λ (x : Step). step-at (if same-ir (x .kind) IR.Cache then set qs k (with-input 0 (updated-input first qs k) x) else qs) k) (lines k .1 (le-refl k))
+          ∙ by (is-cache ps k) (λ t. t)
+        where
+          by : (b : Bool) → (T b → T (is-cache ps k))
+              → step-at (if b then set qs k (with-input 0 (updated-input first qs k) s) else qs) k
+              ≡ record { kind = s .kind; a = s .a; b = s .b; c = s .c; inputs = (if b then step-at ps first-line else s) .inputs; exprs = s .exprs; aggs = s .aggs }
+          by true f =
+              let t = f tt in
+              let there = in-range ps k (ap ir-number (same-kind (s .kind) IR.Cache t)) in
+              getD-set-same qs k (with-input 0 (updated-input first qs k) s) no-step (omega (arith, size))
+              ∙ ap (λ (l : List ℕ). record { kind = s .kind; a = s .a; b = s .b; c = s .c; inputs = l; exprs = s .exprs; aggs = s .aggs })
+              (ap (λ (l : List ℕ). set (s .inputs) 0 (getD l 0 0)) (taken t) ∙ one-entry (s .inputs) (step-at ps first-line .inputs) (u .input k t) (u .input first-line (u .cache k t)))
+          by false f = lines k .1 (le-refl k)
+
+      other-now : (n : ℕ) → n ≢ k → step-at (update-cache-node first qs k) n ≡ step-at qs n
+      unfolding update-cache-node
+      other-now n h = by (is-cache qs k)
+        where
+          by : (b : Bool) → step-at (if b then set qs k (with-input 0 (updated-input first qs k) (step-at qs k)) else qs) n ≡ step-at qs n
+          by true = getD-set-other qs k n (with-input 0 (updated-input first qs k) (step-at qs k)) no-step h
+          by false = refl
+
+      lines-next : Lines (suc k) (update-cache-node first qs k)
+      unfolding Lines
+      lines-next n = by (ℕ-discrete n k)
+        where
+          by : Dec (n ≡ k) → (n < suc k → step-at (update-cache-node first qs k) n ≡ after n (step-at ps n))
+              × (suc k ≤ n → step-at (update-cache-node first qs k) n ≡ step-at ps n)
+          by (yes e) = (
+            λ h. subst (λ x. step-at (update-cache-node first qs k) x ≡ after x (step-at ps x)) (sym e) line-now,
+            λ h. absurd (omega (arith, e)),
+          )
+          by (no h) = (λ l. other-now n h ∙ lines n .0 (omega arith), λ l. other-now n h ∙ lines n .1 (omega arith))
+
+    lines-after : (k : ℕ) → Lines k (update-lines first ps k)
+    unfolding update-lines Lines
+    lines-after zero n = (λ h. absurd (not-suc-le-zero h), λ h. refl)
+    lines-after (suc k) n = lines-next k (update-lines first ps k) (length-lines k) (lines-after k) n
+
+    pub all-lines : (m : ℕ) {qs : List Step} → m ≡ length ps → qs ≡ update-lines first ps m → qs ≡ update-cache-nodes (line-met first) ps
+    unfolding update-cache-nodes Lines
+    all-lines m e q =
+        q ∙ ap (update-lines first ps) e
+        ∙ ext-getD no-step (update-lines first ps (length ps)) (update-cache-nodes (line-met first) ps)
+        (length-lines (length ps) ∙ sym (simp (length-map, length-numbered)))
+        (λ n h.
+        let l : n < length ps = omega (arith, length-lines (length ps)) in
+        lines-after (length ps) n .0 l ∙ sym (at-numbered (λ (k, s). after k s) 0 ps no-step no-step n l ∙ ap (λ (k : ℕ). after k (step-at ps n)) (omega arith)))
 
 -- The line met first -------------------------------------------------------------------------------------------------------------
 
-line-at : (sent : List Step) (m : ℕ) → T (is-cache sent m) → getD (first-lines sent) m 0 ≡ first-met sent (popped sent) m
-unfolding first-lines
-line-at sent m t =
-    table-at (first-met sent (popped sent)) (length sent) m 0 (in-range sent m (ap ir-number (same-kind (step-at sent m .kind) IR.Cache t)))
+module _ (sent : List Step) where
+  pub line-at : (m : ℕ) → T (is-cache sent m) → line-met (first-lines sent) m ≡ key sent m
+  unfolding first-lines
+  line-at m t = table-at (key sent) (length sent) m 0 (in-range sent m (ap ir-number (same-kind (step-at sent m .kind) IR.Cache t)))
 
-met-cache : (sent : List Step) (met : List ℕ) (m : ℕ) → T (is-cache sent m) → T (is-cache sent (first-met sent met m))
-unfolding first-met
-met-cache sent [] m t = t
-met-cache sent (k ∷ met) m t =
-    by (one-id sent k m) (and-left (is-cache sent k) (eqb (step-at sent k .a) (step-at sent m .a))) (met-cache sent met m t)
-  where
-    by : (b : Bool) → (T b → T (is-cache sent k)) → T (is-cache sent (first-met sent met m)) → T (is-cache sent (if b then k else first-met sent met m))
-    by true c _ = c tt
-    by false _ c = c
+  -- it is a Cache, and was itself met first
+  pub first-cache : (m : ℕ) → T (is-cache sent m) → T (is-cache sent (line-met (first-lines sent) m))
+  first-cache m t = rw (line-at m t, key-cache sent m) t
 
--- it is a Cache
-pub first-cache : (sent : List Step) (m : ℕ) → T (is-cache sent m) → T (is-cache sent (getD (first-lines sent) m 0))
-first-cache sent m t = rw (line-at sent m t) (met-cache sent (popped sent) m t)
-
--- One line for each id -----------------------------------------------------------------------------------------------------------
-
--- a Cache whose own line was met first keeps its input
-module _ (first : List ℕ) (ps : List Step) (own : (m : ℕ) → T (is-cache ps m) → getD first m 0 ≡ m) where
-  line-kept : (m : ℕ) → update-cache-node first ps m ≡ ps
-  unfolding update-cache-node
-  line-kept m = by (is-cache ps m) (own m)
-    where
-      s : Step
-      s = step-at ps m
-
-      same-step : with-input 0 (getD (s .inputs) 0 0) s ≡ s
-      same-step =
-          ap (λ (l : List ℕ). record { kind = s .kind; a = s .a; b = s .b; c = s .c; inputs = l; exprs = s .exprs; aggs = s .aggs }) (set-getD (s .inputs) 0 0)
-
-      by : (b : Bool) → (T b → getD first m 0 ≡ m) → (if b then set ps m (with-input 0 (updated-input first ps m) (step-at ps m)) else ps) ≡ ps
-      by true e =
-          ap (λ (k : ℕ). set ps m (with-input 0 (getD (step-at ps k .inputs) 0 0) (step-at ps m))) (e tt)
-          ∙ ap (λ (x : Step). set ps m x) same-step
-          ∙ set-getD ps m no-step
-      by false e = refl
-
-  lines-kept : (k : ℕ) → update-lines first ps k ≡ ps
-  unfolding update-lines
-  lines-kept zero = refl
-  lines-kept (suc k) = ap (λ (qs : List Step). update-cache-node first qs k) (lines-kept k) ∙ line-kept k
-
-  pub own-kept : update-cache-nodes first ps ≡ ps
-  unfolding update-cache-nodes
-  own-kept = lines-kept (length ps)
-
--- two Cache lines with one id are one line
-abbrev pub One-line-each-id : List Step → Type 0
-One-line-each-id ps = (m n : ℕ) → step-at ps m .kind ≡ IR.Cache → step-at ps n .kind ≡ IR.Cache → step-at ps m .a ≡ step-at ps n .a → m ≡ n
-
-module _ (sent : List Step) (one-line : One-line-each-id sent) where
-  own-met : (met : List ℕ) (m : ℕ) → T (is-cache sent m) → first-met sent met m ≡ m
-  unfolding first-met
-  own-met [] m t = refl
-  own-met (k ∷ met) m t = by (one-id sent k m) same-line (own-met met m t)
-    where
-      same-line : T (one-id sent k m) → k ≡ m
-      same-line i =
-          let b = is-cache sent k in
-          let d = eqb (step-at sent k .a) (step-at sent m .a) in
-          one-line k m (same-kind (step-at sent k .kind) IR.Cache (and-left b d i)) (same-kind (step-at sent m .kind) IR.Cache t)
-          (eqb→eq (step-at sent k .a) (step-at sent m .a) (and-right b d i))
-
-      by : (b : Bool) → (T b → k ≡ m) → first-met sent met m ≡ m → (if b then k else first-met sent met m) ≡ m
-      by true e _ = e tt
-      by false _ e = e
-
-  -- nothing is updated, if no step has become a Cache since
-  pub nothing-updated : (ps : List Step) → ((m : ℕ) → T (is-cache ps m) → T (is-cache sent m)) → update-cache-nodes (first-lines sent) ps ≡ ps
-  nothing-updated ps cached-then = own-kept (first-lines sent) ps (λ m t. line-at sent m (cached-then m t) ∙ own-met (popped sent) m (cached-then m t))
-
--- A case: two lines of one id, the second met first ------------------------------------------------------------------------------
-
-cache-of : ℕ → Step
-cache-of input = record { kind = IR.Cache; a = 5; b = 0; c = 0; inputs = input ∷ []; exprs = []; aggs = [] }
-
-two-lines : first-met (cache-of 7 ∷ cache-of 9 ∷ []) (1 ∷ 0 ∷ []) 0 ≡ 1
-unfolding first-met cache-of
-two-lines = refl
-
-second-first : update-cache-nodes (1 ∷ 1 ∷ []) (cache-of 7 ∷ cache-of 9 ∷ []) ≡ cache-of 9 ∷ cache-of 9 ∷ []
-unfolding update-cache-nodes update-lines update-cache-node cache-of
-second-first = refl
+  pub first-own : (m : ℕ) → T (is-cache sent m) → line-met (first-lines sent) (line-met (first-lines sent) m) ≡ line-met (first-lines sent) m
+  first-own m t = line-at (line-met (first-lines sent) m) (first-cache m t) ∙ ap (key sent) (line-at m t) ∙ key-key sent m ∙ sym (line-at m t)

@@ -18,4 +18,4 @@ edges-of consumer slot producer k = table (λ j. made (getD consumer j 0) (getD 
 -- edges from `ms` into n were made behind the first e, and now there are r: c, s and p were the arrays, c′, s′ and p′ are they now
 pub record Linked (n : ℕ) (ms c s p : List ℕ) (e : ℕ) (c′ s′ p′ : List ℕ) (r : ℕ) : Type 0 where
   pub count : r ≡ e + length ms
-  pub edges : edges-of c′ s′ p′ r ≡ edges-of c s p e ++ edges-into n ms
+  pub edges : edges-of c′ s′ p′ r ≡ edges-of c s p e ++ edges-into (λ k. k) n ms

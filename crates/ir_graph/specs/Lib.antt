@@ -3,6 +3,5 @@ pub mod Turns
 pub mod Hits
 pub mod Edges
 pub mod Built
-pub mod Outs
 pub mod NodeKey
 pub mod UpdateCaches

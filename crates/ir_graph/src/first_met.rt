@@ -2,15 +2,16 @@
 ghost use mathlib.Core.Path.{_≡_};
 ghost use Prim.Native.Nat.{ℕ, _≤_, _<_};
 ghost use lib.ListN.{getD, take};
+ghost use Rattle.plan.specs.Graph.{one-id, first-met};
 ghost use Rattle.storage.specs.Stored.{stored-steps, Step-formed};
-ghost use Rattle.claims.proofs.Plans.{Plan};
-ghost use Rattle.ir_graph.specs.UpdateCaches.{one-id, first-met, first-lines};
+ghost use Rattle.claims.specs.Plan.{Plan};
+ghost use Rattle.ir_graph.specs.UpdateCaches.{first-lines};
 use crate::hits::count_hits;
 use crate::stored::is_cache;
 use plan::sizes::size_32;
 use plan::sizes::size_288;
 
-// Is k a Cache with m's id?
+// Are both Caches, with one id?
 fn one_id(steps: &[u8; 1024], n: usize, k: usize, m: usize) -> bool
     requires { ⌜ (n ≤ 32) × (k < n) × (m < n) ⌝ }
     ensures { λ r. ⌜ r ≡ one-id (stored-steps (now (steps .entry)) n) k m ⌝ }
@@ -18,10 +19,13 @@ fn one_id(steps: &[u8; 1024], n: usize, k: usize, m: usize) -> bool
     if !is_cache(steps, k) {
         return false;
     }
+    if !is_cache(steps, m) {
+        return false;
+    }
     steps[k * 32 + 1] == steps[m * 32 + 1]
 }
 
-// The first Cache with m's id among those met.
+// The first Cache with m's id among those met; m itself where there is none.
 fn first_of_id(steps: &[u8; 1024], n: usize, met: &[u8; 288], turns: usize, m: usize) -> u8
     requires { ⌜ (n ≤ 32) × (m < n) ⌝ }
     requires { ⌜ (turns ≤ 288) × ((k : ℕ) → k < turns → getD (now met) k 0 < n) ⌝ }
@@ -39,7 +43,7 @@ fn first_of_id(steps: &[u8; 1024], n: usize, met: &[u8; 288], turns: usize, m: u
     m as u8
 }
 
-// For each line, before the walks: the first Cache with its id that the first pass meets.
+// The key of each line, before the walks: of a Cache the first with its id that the first pass meets.
 pub fn first_met(steps: &[u8; 1024], n: usize, first: &mut [u8; 32])
     requires { ⌜ n ≤ 32 ⌝ }
     requires { ⌜ Plan (stored-steps (now steps) n) ⌝ }

@@ -5,7 +5,7 @@ ghost use lib.Dec.{T};
 ghost use lib.ListN.{length, getD};
 ghost use Rattle.plan.specs.Graph.{popped};
 ghost use Rattle.storage.specs.Stored.{stored-steps, Step-formed};
-ghost use Rattle.claims.proofs.Plans.{Plan};
+ghost use Rattle.claims.specs.Plan.{Plan};
 ghost use Rattle.ir_graph.specs.Pushed.{Pushed};
 ghost use Rattle.ir_graph.specs.Turns.{cached, pushed-by, hit};
 ghost use Rattle.ir_graph.specs.Hits.{Hits-counted, Met-noted};

@@ -3,17 +3,14 @@ ghost use mathlib.Core.Path.{_≡_};
 ghost use Prim.Native.Nat.{ℕ, _+_, _≤_, _<_};
 ghost use lib.Dec.{T};
 ghost use lib.ListN.{length, getD};
-ghost use Rattle.plan.specs.Graph.{graph};
 ghost use Rattle.storage.specs.Stored.{stored-steps, Step-formed};
-ghost use Rattle.claims.proofs.Plans.{Plan};
+ghost use Rattle.claims.specs.Plan.{Plan};
 ghost use Rattle.ir_graph.specs.Hits.{Hits-counted};
 ghost use Rattle.ir_graph.specs.Built.{Built};
-ghost use Rattle.ir_graph.specs.Outs.{Out-edges};
 ghost use Rattle.ir_graph.specs.Pushed.{Pushed};
 ghost use Rattle.ir_graph.specs.Turns.{cached, followed-by, used};
 use crate::edges::link;
 use crate::hits::count_hits;
-use crate::out_edges::note_producers;
 use crate::roots::push_roots;
 use crate::stored::copy_inputs;
 use crate::stored::is_cache;
@@ -67,6 +64,7 @@ fn grow(
     requires { ⌜ Plan (stored-steps (now steps) n) ⌝ }
     requires { ⌜ ((i : ℕ) → i < n → Step-formed (now steps) i) ⌝ }
     requires { ⌜ Hits-counted (stored-steps (now steps) n) (now hits) ⌝ }
+    requires { ⌜ ((i : ℕ) → getD (now in_edges) i 0 ≡ 0) ⌝ }
     ensures { λ r. ⌜ Built (stored-steps (now (steps .entry)) n) (now (places .exit)) (now (consumer .exit)) (now (slot .exit)) (now (producer .exit)) (now (in_edges .exit)) r ⌝ }
 {
     size_288(places);
@@ -98,18 +96,17 @@ pub fn build_ir_traversal_graph(
     slot: &mut [u8; 256],
     producer: &mut [u8; 256],
     in_edges: &mut [u8; 32],
-    out_edge: &mut [u8; 32],
 ) -> Graph
     requires { ⌜ n ≤ 32 ⌝ }
     requires { ⌜ Plan (stored-steps (now steps) n) ⌝ }
     requires { ⌜ ((i : ℕ) → i < n → Step-formed (now steps) i) ⌝ }
+    requires { ⌜ ((i : ℕ) → getD (now in_edges) i 0 ≡ 0) ⌝ }
     ensures { λ r. ⌜ Built (stored-steps (now (steps .entry)) n) (now (places .exit)) (now (consumer .exit)) (now (slot .exit)) (now (producer .exit)) (now (in_edges .exit)) r ⌝ }
-    ensures { λ r. ⌜ Out-edges (stored-steps (now (steps .entry)) n) (graph (stored-steps (now (steps .entry)) n) .1) (now («out_edge» .exit)) ⌝ }
 {
     let mut hits: [u8; 32] = [0; 32];
     let mut met: [u8; 288] = [0; 288];
     count_hits(steps, n, &mut hits, &mut met);
-    let g = grow(
+    grow(
         steps,
         n,
         &mut hits,
@@ -118,7 +115,5 @@ pub fn build_ir_traversal_graph(
         slot,
         producer,
         in_edges,
-    );
-    note_producers(producer, g.edges, out_edge);
-    g
+    )
 }

@@ -3,7 +3,8 @@ ghost use mathlib.Core.Path.{_≡_};
 ghost use Prim.Native.Nat.{ℕ, _≤_, _<_};
 ghost use lib.ListN.{take};
 ghost use Rattle.storage.specs.Stored.{stored-steps, Step-formed};
-ghost use Rattle.ir_graph.specs.UpdateCaches.{update-cache-node, update-cache-nodes, Updatable};
+ghost use Rattle.plan.specs.Graph.{update-cache-nodes};
+ghost use Rattle.ir_graph.specs.UpdateCaches.{line-met, update-cache-node, Updatable};
 use crate::stored::is_cache;
 use plan::sizes::size_1024;
 
@@ -28,7 +29,7 @@ pub fn update_cache_nodes(steps: &mut [u8; 1024], n: usize, first: &[u8; 32])
     requires { ⌜ n ≤ 32 ⌝ }
     requires { ⌜ ((i : ℕ) → i < n → Step-formed (now steps) i) ⌝ }
     requires { ⌜ Updatable (take n (now first)) (stored-steps (now steps) n) ⌝ }
-    ensures { λ _. ⌜ stored-steps (now (steps .exit)) n ≡ update-cache-nodes (take n (now (first .entry))) (stored-steps (now (steps .entry)) n) ⌝ }
+    ensures { λ _. ⌜ stored-steps (now (steps .exit)) n ≡ update-cache-nodes (line-met (take n (now (first .entry)))) (stored-steps (now (steps .entry)) n) ⌝ }
     ensures { λ _. ⌜ ((i : ℕ) → i < n → Step-formed (now (steps .exit)) i) ⌝ }
 {
     let mut m: usize = 0;

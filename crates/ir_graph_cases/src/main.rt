@@ -3,7 +3,7 @@
 ghost use Prim.Native.Nat.{ℕ, _+_, _≤_, _<_};
 ghost use lib.ListN.{length};
 ghost use Rattle.storage.specs.Stored.{stored-steps, Step-formed};
-ghost use Rattle.claims.proofs.Plans.{Plan};
+ghost use Rattle.claims.specs.Plan.{Plan};
 use ir_graph::ir_graph::build_ir_traversal_graph;
 use libc::STDOUT_FILENO;
 use reading::read_plan;
@@ -50,7 +50,6 @@ fn graph_agrees(steps: &[u8; 1024], n: usize, places: &[u8], edges: &[u8]) -> bo
     let mut slot: [u8; 256] = [0; 256];
     let mut producer: [u8; 256] = [0; 256];
     let mut ins: [u8; 32] = [0; 32];
-    let mut outs: [u8; 32] = [0; 32];
     let g = build_ir_traversal_graph(
         steps,
         n,
@@ -59,7 +58,6 @@ fn graph_agrees(steps: &[u8; 1024], n: usize, places: &[u8], edges: &[u8]) -> bo
         &mut slot,
         &mut producer,
         &mut ins,
-        &mut outs,
     );
     if g.places != places.len() {
         return false;

@@ -19,7 +19,7 @@ use Rattle.storage.specs.Stored.{table}
 use Rattle.storage.proofs.Laws.{length-table, table-at, same-table}
 use Rattle.plan.specs.declared.rules.Around.{Around}
 use Rattle.plan.specs.declared.rules.Loosened.{Loosened}
-use Rattle.plan.specs.Visit.{around, is-into, is-out-of, no-edge, out-edge, ins-unordered, outs-unordered, loosened, relinked}
+use Rattle.plan.specs.Visit.{around, is-into, is-out-of, no-edge, out-edge, in-edge, ins-unordered, outs-unordered, loosened, relinked}
 use Rattle.claims.specs.Demand3.{leaving-among}
 use Rattle.node_rules.specs.Held.{producer-of, held-edge, held-edges, around-with, mark}
 
@@ -141,44 +141,44 @@ module _ (consumer slot producer : List ℕ) (old : List Bool) (n : ℕ) (l : Lo
 
 -- Relinked edges -------------------------------------------------------------------------------------------------------------------
 
-module _ (consumer slot producer : List ℕ) (old : List Bool) (n input : ℕ) where
+module _ (consumer slot producer : List ℕ) (old : List Bool) (n from : ℕ) where
   abbrev pub producer-at : ℕ → ℕ
-  producer-at j = if eqb (getD consumer j 0) n then 255 else if eqb (getD producer j 0) n then input else getD producer j 0
+  producer-at j = if eqb (getD consumer j 0) n then 255 else if eqb (getD producer j 0) n then from else getD producer j 0
 
   abbrev pub unordered-at : ℕ → Bool
   unordered-at j = eqb (getD consumer j 0) n || getD old j false
 
-  pub all-relinked : n < 32 → input < 32 → (producer′ : List ℕ) (new : List Bool) (edges i : ℕ) → edges ≤ i
+  pub all-relinked : n < 32 → (producer′ : List ℕ) (new : List Bool) (edges i : ℕ) → edges ≤ i
       → Changed 0 producer-at producer producer′ i → Changed false unordered-at old new i
-      → held-edges consumer slot producer′ new edges ≡ map (relinked n input) (held-edges consumer slot producer old edges)
+      → held-edges consumer slot producer′ new edges ≡ map (relinked n (producer-of from)) (held-edges consumer slot producer old edges)
   unfolding held-edges held-edge
-  all-relinked small there producer′ new edges i h c e =
-      same-table (held-edge consumer slot producer′ new) (λ j. relinked n input (held-edge consumer slot producer old j)) edges
+  all-relinked small producer′ new edges i h c e =
+      same-table (held-edge consumer slot producer′ new) (λ j. relinked n (producer-of from) (held-edge consumer slot producer old j)) edges
       (λ j k. edge j (c .done j (omega arith)) (e .done j (omega arith)) (out-of-held consumer slot producer old j n small))
-      ∙ sym (map-table (relinked n input) (held-edge consumer slot producer old) 0 edges)
+      ∙ sym (map-table (relinked n (producer-of from)) (held-edge consumer slot producer old) 0 edges)
     where
       made-of : ℕ → ℕ → ℕ → Bool → Edge
       made-of a b p u = record { consumer = a; slot = b; producer = producer-of p; unordered = u }
 
       by : (i o : Bool) (a b p : ℕ) (u : Bool)
-          → made-of a b (if i then 255 else if o then input else p) (i || u)
+          → made-of a b (if i then 255 else if o then from else p) (i || u)
           ≡ (if i then record { consumer = a; slot = b; producer = none; unordered = true }
-          else if o then record { consumer = a; slot = b; producer = some input; unordered = u }
+          else if o then record { consumer = a; slot = b; producer = producer-of from; unordered = u }
           else made-of a b p u)
       by true o a b p u = refl
-      by false true a b p u = rw (ne-eqb input 255 (λ x. absurd (omega (arith, x))))
+      by false true a b p u = refl
       by false false a b p u = refl
 
       edge : (j : ℕ) → getD producer′ j 0 ≡ producer-at j → getD new j false ≡ unordered-at j
           → is-out-of n (held-edge consumer slot producer old j) ≡ eqb (getD producer j 0) n
-          → held-edge consumer slot producer′ new j ≡ relinked n input (held-edge consumer slot producer old j)
+          → held-edge consumer slot producer′ new j ≡ relinked n (producer-of from) (held-edge consumer slot producer old j)
       edge j c e o =
           ap₂ (made-of (getD consumer j 0) (getD slot j 0)) c e
           ∙ by (eqb (getD consumer j 0) n) (eqb (getD producer j 0) n) (getD consumer j 0) (getD slot j 0) (getD producer j 0) (getD old j false)
           ∙ ap
           (λ (b : Bool).
           if eqb (getD consumer j 0) n then record { consumer = getD consumer j 0; slot = getD slot j 0; producer = none; unordered = true }
-          else if b then record { consumer = getD consumer j 0; slot = getD slot j 0; producer = some input; unordered = getD old j false }
+          else if b then record { consumer = getD consumer j 0; slot = getD slot j 0; producer = producer-of from; unordered = getD old j false }
           else held-edge consumer slot producer old j)
           (sym o)
 
@@ -210,3 +210,37 @@ module _ (consumer slot producer : List ℕ) (unordered : List Bool) (edges n : 
   leaves-later j k r i h e v =
       let w : r ≡ j + 1 + leaving-among n (drop (j + 1) (held-edges consumer slot producer unordered edges)) = rw i v in
       omega (arith, w, leaves j (omega arith) false (ne-eqb (getD producer j 0) n e))
+
+-- What produces the edge into a step: a loop from the last edge to the first -----------------------------------------------------------
+
+module _ (consumer slot producer : List ℕ) (unordered : List Bool) (edges n : ℕ) where
+  -- what is known of the edges from the k-th on
+  abbrev pub Produces : ℕ → ℕ → Type 0
+  Produces k r = producer-of r ≡ in-edge n (drop k (held-edges consumer slot producer unordered edges)) .producer
+
+  pub none-enters : Produces edges 255
+  unfolding held-edges in-edge select
+  none-enters = rw (last-edges (held-edge consumer slot producer unordered) edges)
+
+  enters : (j : ℕ) → j < edges → (b : Bool) → eqb (getD consumer j 0) n ≡ b
+      → in-edge n (drop j (held-edges consumer slot producer unordered edges))
+      ≡ (if b then held-edge consumer slot producer unordered j else in-edge n (drop (j + 1) (held-edges consumer slot producer unordered edges)))
+  unfolding held-edges held-edge in-edge select
+  enters j h b e = rw (next-edge (held-edge consumer slot producer unordered) edges j h, select, e) (by b)
+    where
+      later : List Edge
+      later = select (is-into n) (drop (j + 1) (table (held-edge consumer slot producer unordered) 0 edges))
+
+      by : (b : Bool) → getD (if b then held-edge consumer slot producer unordered j ∷ later else later) 0 no-edge
+          ≡ (if b then held-edge consumer slot producer unordered j else getD later 0 no-edge)
+      by true = refl
+      by false = refl
+
+  pub enters-here : (j : ℕ) → j < edges → getD consumer j 0 ≡ n → Produces j (getD producer j 0)
+  unfolding held-edge
+  enters-here j h e = sym (ap (λ (d : Edge). d .producer) (enters j h true (eq-eqb (getD consumer j 0) n e)))
+
+  pub enters-later : (j k r : ℕ) → j + 1 ≡ k → k ≤ edges → getD consumer j 0 ≢ n → Produces k r → Produces j r
+  enters-later j k r i h e v =
+      v ∙ ap (λ (m : ℕ). in-edge n (drop m (held-edges consumer slot producer unordered edges)) .producer) (sym i)
+      ∙ sym (ap (λ (d : Edge). d .producer) (enters j (omega arith) false (ne-eqb (getD consumer j 0) n e)))

@@ -10,9 +10,8 @@ use Rattle.plan.proofs.KindNumbers.{ir-back}
 use Rattle.plan.specs.Sheet.{Step, step-at}
 use Rattle.storage.specs.Stored.{stored-steps, Steps-held}
 use Rattle.storage.proofs.Changes.{formed-still, input-stored, agg-stored, options-stored, formed-options}
-use Rattle.plan.specs.Visit.{with-input, with-aggs}
+use Rattle.plan.specs.Visit.{with-input, with-aggs, with-options}
 use Rattle.plan.specs.declared.rules.Options.{Options}
-use Rattle.plan.specs.Visit.{with-options}
 
 module _ (bytes : List ℕ) (n i : ℕ) (held : Steps-held bytes n) (here : i < n) where
   room : n * 32 ≤ length bytes

@@ -72,11 +72,10 @@ pub record Edges-held (bytes : List ℕ) (n : ℕ) (consumer slot producer : Lis
   pub there : (k : ℕ) → k < edges → getD consumer k 0 < n
   pub slots : (k : ℕ) → k < edges → getD slot k 0 < getD bytes (getD consumer k 0 * 32 + 4) 0
 
--- step n has an input that is a step, and an unordered edge leaves it
+-- step n has an input, and an unordered edge leaves it
 pub record Unlinkable (bytes : List ℕ) (steps n : ℕ) (ds : List Edge) : Type 0 where
   pub step : n < steps
   pub reads : 1 ≤ getD bytes (n * 32 + 4) 0
-  pub input : getD bytes (n * 32 + 7) 0 < 32
   pub unordered : Visit.out-edge n ds .unordered ≡ true
 
 -- steps and edges after unlink_node, from those before
@@ -84,4 +83,4 @@ pub record Unlinked (n : ℕ) (ps : List Step) (ds : List Edge) (ps′ : List St
   pub steps :
       let d = Visit.out-edge n ds in
       ps′ ≡ set ps (d .consumer) (Visit.with-input (d .slot) (getD (step-at ps n .inputs) 0 0) (step-at ps (d .consumer)))
-  pub edges : ds′ ≡ map (Visit.relinked n (getD (step-at ps n .inputs) 0 0)) ds
+  pub edges : ds′ ≡ map (Visit.relinked n (Visit.in-edge n ds .producer)) ds

@@ -8,7 +8,7 @@ use mathlib.Core.Bool.{Bool, true, false, _||_}
 use mathlib.Core.List.{List, [], _∷_, map, reverse, reverse-cons, List·Memᴰ, List·Memᴰ·head, List·Memᴰ·tail, List·Memᴰ·not-nil, List·Memᴰ·cases-cons, List·Memᴰ·append-cases, Memᴰ·append-left, Memᴰ·append-right}
 use lib.Dec.{T, eqb, eqb→eq, eqb-refl}
 use lib.ListN.{length, getD}
-use Rattle.plan.specs.Lists.{if_then_else_, any?, select, sum, concat-map, numbered, among, times}
+use Rattle.plan.specs.Lists.{if_then_else_, select, sum, concat-map, numbered, times, any?, among}
 use Rattle.plan.proofs.ListLaws.{sum-append}
 use Rattle.plan.proofs.Booleans.{differ}
 

@@ -13,3 +13,4 @@ pub mod TurnedBack
 pub mod Checked
 pub mod Computing
 pub mod Cases
+pub mod SharedIds

@@ -11,7 +11,7 @@ use Rattle.plan.specs.Sheet.{Sheet, Outcome, refused, done, _then_, refu
 use Rattle.plan.specs.Faults.{lines, references-right, named-right, id-right, field-right, reference-fault, use-fault, id-fault, field-fault, passes, first-fault, refused-by, checked}
 use Rattle.plan.specs.Graph.{graph}
 use Rattle.plan.specs.Visit.{Run, simplify-ir-node-orders, looked-in}
-use Rattle.plan.specs.Walks.{begin, down, up, simplify-and-fetch-orderings}
+use Rattle.plan.specs.Walks.{begin, down, up, updated, simplify-and-fetch-orderings}
 use Rattle.plan.specs.Finished.{run, too-short}
 use Rattle.plan.specs.Conditions.{refusal-numbers, Refers-wrong, Named-wrong, Shares-id, Field-outside, At-end, Enters, Is-read, Has-plan, Has-references, Has-uses, Has-ids, Is-taken, Comes-to, Turned-back}
 use Rattle.plan.proofs.Outcomes.{same-value, both-done, passed}
@@ -201,10 +201,14 @@ module _ (s output : List ℕ) (room : T (not (too-short output))) where
   walks-back : (sh : Sheet) → (read s then checked) ≡ done sh → (n : ℕ) → simplify-and-fetch-orderings sh ≡ refused n → Back n
   unfolding simplify-and-fetch-orderings down up
   walks-back sh a n e =
-      elim (refused-then (down sh) up e) [
-        | inl d ↦ let (k, r, m, x) = walk-refused (graph (sh .steps) .0) (begin sh) n d in visit-back sh a n k r (inl m) _ (visit-came k r) x
-        | inr (half, d, u) ↦
-            let (k, r, m, x) = walk-refused (half .back) half n u in visit-back sh a n k r (inr (half, d, m)) _ (visit-came k r) x
+      elim (refused-then (down sh then up) (λ r. done (updated sh r)) e) [
+        | inl w ↦
+            elim (refused-then (down sh) up w) [
+              | inl d ↦ let (k, r, m, x) = walk-refused (graph (sh .steps) .0) (begin sh) n d in visit-back sh a n k r (inl m) _ (visit-came k r) x
+              | inr (half, d, u) ↦
+                  let (k, r, m, x) = walk-refused (half .back) half n u in visit-back sh a n k r (inr (half, d, m)) _ (visit-came k r) x
+            ]
+        | inr (_, _, x) ↦ no-refusal x
       ]
 
   -- all of it
@@ -285,9 +289,10 @@ module _ (s output : List ℕ) where
   visiting : {sh : Sheet} {n k : ℕ} {r : Run} → Is-taken s output sh → Comes-to sh n r → simplify-ir-node-orders n r ≡ refused k → outcome ≡ refused k
   unfolding simplify-and-fetch-orderings down up _then_
   visiting {sh} {n} {k} {r} t (inl m) e =
-      walking t ∙ ap (λ (o : Outcome Run). o then up) (walk-stops (graph (sh .steps) .0) (begin sh) n k r m e)
+      walking t ∙ ap (λ (o : Outcome Run). o then up then λ q. done (updated sh q)) (walk-stops (graph (sh .steps) .0) (begin sh) n k r m e)
   visiting {sh} {n} {k} {r} t (inr (half, d, m)) e =
-      walking t ∙ ap (λ (o : Outcome Run). o then up) d ∙ walk-stops (half .back) half n k r m e
+      walking t ∙ ap (λ (o : Outcome Run). o then up then λ q. done (updated sh q)) d
+      ∙ ap (λ (o : Outcome Run). o then λ q. done (updated sh q)) (walk-stops (half .back) half n k r m e)
 
   pub comes-back : (n : ℕ) → Turned-back s output n → outcome ≡ refused n
   unfolding _then_

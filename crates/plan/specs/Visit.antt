@@ -2,7 +2,7 @@
 use Prim.Native.Nat.{ℕ}
 use mathlib.Core.Bool.{Bool, true, false, _&&_, _||_, not}
 use mathlib.Core.List.{List, [], _∷_, _++_, map}
-use mathlib.Core.Option.{none, some}
+use mathlib.Core.Option.{Option, none, some}
 use lib.Dec.{eqb}
 use lib.ListN.{getD, set, length}
 use Rattle.plan.specs.declared.tally.Tally.{Tally}
@@ -276,6 +276,10 @@ no-edge = record { consumer = 0; slot = 0; producer = none; unordered = false }
 unfoldable pub out-edge : ℕ → List Edge → Edge
 out-edge n ds = getD (select (is-out-of n) ds) 0 no-edge
 
+-- and the one into a step that has one
+unfoldable pub in-edge : ℕ → List Edge → Edge
+in-edge n ds = getD (select (is-into n) ds) 0 no-edge
+
 unfoldable pub ins-unordered : ℕ → List Edge → List Bool
 ins-unordered n ds = map (λ (d : Edge). d .unordered) (select (is-into n) ds)
 
@@ -364,11 +368,12 @@ looks-of s e es tally =
 
 -- unlink_node ----------------------------------------------------------------------------------------------------------------
 
--- the edge into n loses its producer, and is unordered as the one out of n was; the one out of n is produced by n's input
-abbrev pub relinked : ℕ → ℕ → Edge → Edge
-relinked n input d =
+-- the edge into n loses its producer, and is unordered as the one out of n was; the one out of n is produced by what produced the
+-- edge into n (`from`): the key of n's input
+abbrev pub relinked : ℕ → Option ℕ → Edge → Edge
+relinked n from d =
     if is-into n d then record { consumer = d .consumer; slot = d .slot; producer = none; unordered = true }
-    else if is-out-of n d then record { consumer = d .consumer; slot = d .slot; producer = some input; unordered = d .unordered }
+    else if is-out-of n d then record { consumer = d .consumer; slot = d .slot; producer = from; unordered = d .unordered }
     else d
 
 -- a step with another input in a slot
@@ -392,7 +397,7 @@ unlink-node n r =
     record {
       arena = r .arena;
       steps = set (r .steps) (d .consumer) (with-input (d .slot) input (step-at (r .steps) (d .consumer)));
-      edges = map (relinked n input) (r .edges);
+      edges = map (relinked n (in-edge n (r .edges) .producer)) (r .edges);
       back = r .back;
       removed = n ∷ r .removed;
       tally = visit-more (r .tally);

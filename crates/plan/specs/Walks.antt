@@ -1,8 +1,8 @@
--- simplify_and_fetch_orderings of mod.rs: the downward and the upward walk.
+-- simplify_and_fetch_orderings of mod.rs: the downward and the upward walk, then update_cache_nodes.
 use Prim.Native.Nat.{ℕ}
 use mathlib.Core.List.{List, [], _∷_}
 use Rattle.plan.specs.Sheet.{Sheet, Outcome, refused, done, _then_}
-use Rattle.plan.specs.Graph.{graph}
+use Rattle.plan.specs.Graph.{key, graph, update-cache-nodes}
 use Rattle.plan.specs.Visit.{Run, simplify-ir-node-orders}
 
 unfoldable pub walk : List ℕ → Run → Outcome Run
@@ -28,15 +28,27 @@ down sh = walk (graph (sh .steps) .0) (begin sh)
 unfoldable pub up : Run → Outcome Run
 up r = walk (r .back) r
 
--- update_cache_nodes has nothing to do: each id has one line
-unfoldable pub simplify-and-fetch-orderings : Sheet → Outcome Run
-simplify-and-fetch-orderings sh = down sh then up
+-- cache_updater.update_cache_nodes
+unfoldable pub updated : Sheet → Run → Run
+updated sh r =
+    record {
+      arena = r .arena;
+      steps = update-cache-nodes (key (sh .steps)) (r .steps);
+      edges = r .edges;
+      back = r .back;
+      removed = r .removed;
+      tally = r .tally;
+    }
 
--- The visits of a walk, one that is refused included: the step, and the state in which it is visited
+unfoldable pub simplify-and-fetch-orderings : Sheet → Outcome Run
+simplify-and-fetch-orderings sh = down sh then up then λ r. done (updated sh r)
+
+-- what follows where there is something to go on with; nothing after a refusal
 abbrev pub then-all : {A B : Type 0} → Outcome A → (A → List B) → List B
 then-all (refused k) f = []
 then-all (done x) f = f x
 
+-- The visits of a walk, one that is refused included: the step, and the state in which it is visited
 unfoldable pub trace : List ℕ → Run → List (ℕ × Run)
 trace [] r = []
 trace (n ∷ ns) r = (n, r) ∷ then-all (simplify-ir-node-orders n r) (λ r′. trace ns r′)

@@ -11,8 +11,9 @@ use Rattle.plan.specs.Sheet.{Sheet, Outcome, refused, done, _then_}
 use Rattle.plan.specs.Graph.{graph}
 use Rattle.storage.specs.Stored.{stored-steps}
 use Rattle.plan.specs.Visit.{Run}
-use Rattle.plan.specs.Walks.{walk, begin, down, up, simplify-and-fetch-orderings}
+use Rattle.plan.specs.Walks.{walk, begin, down, up, updated, simplify-and-fetch-orderings}
 use Rattle.claims.specs.WellFormed.{WellFormed}
+use Rattle.claims.proofs.Ends.{walks-alone}
 use Rattle.claims.proofs.Visitables.{Going, going-begin, going-half}
 use Rattle.plan.specs.declared.tally.Tally.{Tally}
 use Rattle.simplify_ordering.specs.declared.walks.Orderings.{Orderings}
@@ -49,7 +50,7 @@ module _ (sh : Sheet) (wf : WellFormed sh) (before : List ℕ → List ℕ → R
 module _ (sh : Sheet) (half : List ℕ → List ℕ → Run) (r : Walked) (pushed : List ℕ) (g : Down-gives sh half r pushed) where
   pub down-refused : r .refused ≢ 0 → simplify-and-fetch-orderings sh ≡ refused (r .refused)
   unfolding simplify-and-fetch-orderings _then_
-  down-refused k = ap (λ (o : Outcome Run). o then up) (g .refusal k)
+  down-refused k = ap (λ (o : Outcome Run). o then up then λ q. done (updated sh q)) (g .refusal k)
 
   module _ (wf : WellFormed sh) (backs : (b d : List ℕ) → half b d .back ≡ b) (z : r .refused ≡ 0) where
     abbrev h : Run
@@ -69,8 +70,8 @@ module _ (sh : Sheet) (half : List ℕ → List ℕ → Run) (r : Walked) (pushe
     module _ (after : ℕ → List ℕ → List ℕ → Tally → Run) (r′ : Walked) (pushed′ : List ℕ)
         (g′ : Walk-gives pushed half (λ b d. after (r′ .exprs) b d (r′ .tally)) r r′ pushed′) where
       up-is : simplify-and-fetch-orderings sh ≡ walk pushed h
-      unfolding simplify-and-fetch-orderings _then_ up
-      up-is = ap (λ (o : Outcome Run). o then up) (g .is z) ∙ ap (λ (x : List ℕ). walk x h) (backs pushed (g .gone))
+      unfolding _then_ up
+      up-is = walks-alone sh wf ∙ ap (λ (o : Outcome Run). o then up) (g .is z) ∙ ap (λ (x : List ℕ). walk x h) (backs pushed (g .gone))
 
       pub answered : {a : Orderings} → Answers r′ a → Orderings-are (simplify-and-fetch-orderings sh) after a
       answered (stopped k e) =

@@ -1,7 +1,7 @@
 -- A visit as the definition has it, from what the code of its stages gives.
 use mathlib.Core.Path.{_≡_, ap, _∙_}
 use mathlib.Core.Logic.{_≢_}
-use Prim.Native.Nat.{ℕ, _+_, _*_, _≤_, _<_, _^_}
+use Prim.Native.Nat.{ℕ, _+_, _<_, _^_}
 use native.Mathlib.Omega.{arith}
 use native.Mathlib.Nat.{le-trans}
 use mathlib.Core.Bool.{Bool, true, false, _&&_, not}
@@ -16,9 +16,8 @@ use Rattle.plan.specs.FunctionIR.{rust-functions}
 use Rattle.plan.specs.Lists.{yes?}
 use Rattle.plan.specs.Sheet.{Expr, Step, no-step, refused, done, step-at}
 use Rattle.plan.specs.Graph.{Edge}
-use Rattle.plan.specs.Visit.{Run, Looked, around, options-of, with-options, looks-of, looked-in, rule, ruling, refusal-in, settled, settle, goes, unlink-node, simplify-ir-node-orders}
+use Rattle.plan.specs.Visit.{Run, Looked, around, options-of, with-options, looks-of, looked-in, rule, ruling, refusal-in, settled, settle, goes, unlink-node, simplify-ir-node-orders, no-edge}
 use Rattle.plan.specs.Visit as Visit
-use Rattle.plan.specs.Visit.{no-edge}
 use Rattle.storage.proofs.Laws.{length-table, table-at, length-steps}
 use Rattle.plan.specs.declared.tally.Tally.{Tally}
 use Rattle.plan.specs.Tally.{visit-more}
@@ -29,7 +28,6 @@ use Rattle.node_rules.specs.Held.{Unlinked, Unlinkable, Edges-held, held-edge, 
 use Rattle.simplify_ordering.specs.Looks.{Listed}
 use Rattle.simplify_ordering.specs.Run.{run-of, Run-held, refusal-number, Ruled-by, Settle-asks}
 use Rattle.node_rules.proofs.StepLaws.{its-n1}
-use Rattle.node_rules.proofs.UnlinkLaws.{first-input}
 use Rattle.claims.proofs.Stays.{goes-sort}
 use Rattle.plan.proofs.Counts.{true-of}
 use Rattle.claims.proofs.VisitsKept.{looks-visits}
@@ -174,11 +172,8 @@ module _ (recs line : List ℕ) (off : List Bool) (m : ℕ) (steps : List ℕ) (
 
   pub unlinkable : T (goes i (run-of recs line off m steps n consumer slot producer unordered edges [] [] tally)) → Unlinkable steps n i ds
   unlinkable t =
-      let (some, low) = v .input t in
-      let reads : 1 ≤ getD steps (i * 32 + 4) 0 = omega (arith, some, its-n1 steps n i (held .steps-held) here-is) in
       record {
         step = here-is;
-        reads = reads;
-        input = omega (arith, low, first-input steps n i here-is reads);
+        reads = omega (arith, v .input t, its-n1 steps n i (held .steps-held) here-is);
         unordered = true-of (Visit.out-edge i ds .unordered) (goes-sort i (run-of recs line off m steps n consumer slot producer unordered edges [] [] tally) t .1);
       }

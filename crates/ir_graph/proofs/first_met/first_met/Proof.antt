@@ -6,7 +6,7 @@ use borrow.Author.Needs.{needs}
 use lib.ListN.{length, take, length-set}
 use Rattle.storage.specs.Stored.{table, stored-steps}
 use Rattle.storage.proofs.Laws.{length-steps}
-use Rattle.ir_graph.specs.UpdateCaches.{first-met}
+use Rattle.plan.specs.Graph.{first-met}
 use Rattle.ir_graph.proofs.FirstPass.{zeros}
 use Rattle.ir_graph.proofs.FirstMet.{none-noted, one-noted, all-noted}
 use Rattle.ir_graph.proofs.first_met.first_met.Statement.{statement}
@@ -55,7 +55,7 @@ returns : tie.Need-returns Inv-loop μ-loop
 returns c =
     let s = c .before .before .before .before .before .before .before in
     let l = c .before .loop in
-    all-noted (now (s .args .steps)) (s .args .n) _ (l .first) (l .m) (c .before .before .count-hits .ensures .1 .1 .order) (omega arith) (l .inv .2)
+    all-noted (now (s .args .steps)) (s .args .n) (s .pre .1 .0) _ (l .first) (l .m) (c .before .before .count-hits .ensures .1 .1 .order) (omega arith) (l .inv .2)
 
 pub first-met-spec : {M : Type 1} → statement M
 first-met-spec =

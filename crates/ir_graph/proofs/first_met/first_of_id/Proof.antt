@@ -5,7 +5,7 @@ use native.Mathlib.Omega.{arith}
 use borrow.Author.Needs.{needs}
 use lib.ListN.{take, drop}
 use Rattle.storage.specs.Stored.{stored-steps}
-use Rattle.ir_graph.specs.UpdateCaches.{first-met}
+use Rattle.plan.specs.Graph.{first-met}
 use Rattle.ir_graph.proofs.FirstMet.{met-here, met-later, none-met}
 use Rattle.ir_graph.proofs.first_met.first_of_id.Statement.{statement}
 use Rattle.ir_graph.proofs.first_met.first_of_id.Tie as tie

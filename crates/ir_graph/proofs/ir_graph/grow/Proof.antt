@@ -44,7 +44,7 @@ loop-holds c =
     let s = c .before .before .before .before .before .before in
     placing (now (s .args .steps)) (s .args .n) (s .pre .0) (s .pre .1 .0) (s .pre .1 .1 .0)
     _ (now (s .args .places)) (now (s .args .hits)) (now (s .args .consumer)) (now (s .args .slot)) (now (s .args .producer)) (now (s .args .in-edges)) _
-    (c .before .before .before .before .size-288 .ensures) (c .before .before .size-32 .ensures) (s .pre .1 .1 .1) (c .push-roots .ensures)
+    (c .before .before .before .before .size-288 .ensures) (c .before .before .size-32 .ensures) (s .pre .1 .1 .1 .1) (s .pre .1 .1 .1 .0) (c .push-roots .ensures)
 
 element-copy-out-current : tie.Need-element-copy-out-current Inv-loop μ-loop
 element-copy-out-current c = omega (arith, c .before .loop .inv .growing .fits)

@@ -6,8 +6,8 @@ use borrow.Author.Needs.{needs}
 use lib.ListN.{take}
 use Rattle.storage.specs.Stored.{stored-steps, Step-formed}
 use Rattle.storage.proofs.Laws.{length-steps}
-use Rattle.ir_graph.specs.UpdateCaches.{update-lines, Updatable}
-use Rattle.ir_graph.proofs.UpdateCaches.{no-lines, next-line, all-lines}
+use Rattle.ir_graph.specs.UpdateCaches.{Updatable}
+use Rattle.ir_graph.proofs.UpdateCaches.{update-lines, no-lines, next-line, all-lines}
 use Rattle.ir_graph.proofs.update_cache_nodes.update_cache_nodes.Statement.{statement}
 use Rattle.ir_graph.proofs.update_cache_nodes.update_cache_nodes.Tie as tie
 
@@ -44,7 +44,7 @@ returns : tie.Need-returns Inv-loop μ-loop
 returns c =
     let s = c .before .before in
     let l = c .before .loop in
-    (all-lines _ _ (l .m) (omega (arith, length-steps (now (s .args .steps)) (s .args .n))) (l .inv .3), l .inv .1)
+    (all-lines _ _ (s .pre .1 .1) (l .m) (omega (arith, length-steps (now (s .args .steps)) (s .args .n))) (l .inv .3), l .inv .1)
 
 pub update-cache-nodes-spec : {M : Type 1} → statement M
 update-cache-nodes-spec =

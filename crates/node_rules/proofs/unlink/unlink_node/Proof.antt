@@ -34,17 +34,26 @@ element-copy-out-input c = search needs
 store-input-requires : tie.Need-store-input-requires
 store-input-requires c κs = (c .before .before .before .before .before .before .before .pre .0, ((c .before .before .before .before .before .before .before .pre .1 .0 .there (c .before .before .before .before .leaving-edge .result) (edge-there (now (c .before .before .before .before .before .before .before .args .consumer)) (now (c .before .before .before .before .before .before .before .args .slot)) (now (c .before .before .before .before .before .before .before .args .producer)) (now (c .before .before .before .before .before .before .before .args .unordered)) (c .before .before .before .before .before .before .before .args .edges) (c .before .before .before .before .before .before .before .args .n) (c .before .before .before .before .leaving-edge .result) (c .before .before .before .before .leaving-edge .ensures .0) (c .before .before .before .before .before .before .before .pre .1 .1 .unordered))), (c .before .before .before .before .before .before .before .pre .1 .0 .slots (c .before .before .before .before .leaving-edge .result) (edge-there (now (c .before .before .before .before .before .before .before .args .consumer)) (now (c .before .before .before .before .before .before .before .args .slot)) (now (c .before .before .before .before .before .before .before .args .producer)) (now (c .before .before .before .before .before .before .before .args .unordered)) (c .before .before .before .before .before .before .before .args .edges) (c .before .before .before .before .before .before .before .args .n) (c .before .before .before .before .leaving-edge .result) (c .before .before .before .before .leaving-edge .ensures .0) (c .before .before .before .before .before .before .before .pre .1 .1 .unordered)))))
 
+producer-into-requires : tie.Need-producer-into-requires
+producer-into-requires c κs = search needs
+
 relink-edges-requires : tie.Need-relink-edges-requires
 relink-edges-requires c κs = search needs
 
 returns : tie.Need-returns
-returns c = (
-  record {
-    steps = rw (its-consumer (now (c .before .before .before .before .before .before .before .before .before .before .before .args .consumer)) (now (c .before .before .before .before .before .before .before .before .before .before .before .args .slot)) (now (c .before .before .before .before .before .before .before .before .before .before .before .args .producer)) (now (c .before .before .before .before .before .before .before .before .before .before .before .args .unordered)) (c .before .before .before .before .before .before .before .before .before .before .before .args .edges) (c .before .before .before .before .before .before .before .before .before .before .before .args .n) (c .before .before .before .before .before .before .before .before .leaving-edge .result) (c .before .before .before .before .before .before .before .before .leaving-edge .ensures .0) (c .before .before .before .before .before .before .before .before .before .before .before .pre .1 .1 .unordered), its-slot (now (c .before .before .before .before .before .before .before .before .before .before .before .args .consumer)) (now (c .before .before .before .before .before .before .before .before .before .before .before .args .slot)) (now (c .before .before .before .before .before .before .before .before .before .before .before .args .producer)) (now (c .before .before .before .before .before .before .before .before .before .before .before .args .unordered)) (c .before .before .before .before .before .before .before .before .before .before .before .args .edges) (c .before .before .before .before .before .before .before .before .before .before .before .args .n) (c .before .before .before .before .before .before .before .before .leaving-edge .result) (c .before .before .before .before .before .before .before .before .leaving-edge .ensures .0) (c .before .before .before .before .before .before .before .before .before .before .before .pre .1 .1 .unordered), first-input (now (c .before .before .before .before .before .before .before .before .before .before .before .args .steps)) (c .before .before .before .before .before .before .before .before .before .before .before .args .n-steps) (c .before .before .before .before .before .before .before .before .before .before .before .args .n) (c .before .before .before .before .before .before .before .before .before .before .before .pre .1 .1 .step) (c .before .before .before .before .before .before .before .before .before .before .before .pre .1 .1 .reads)) (c .before .before .before .store-input .ensures .0);
-    edges = rw (first-input (now (c .before .before .before .before .before .before .before .before .before .before .before .args .steps)) (c .before .before .before .before .before .before .before .before .before .before .before .args .n-steps) (c .before .before .before .before .before .before .before .before .before .before .before .args .n) (c .before .before .before .before .before .before .before .before .before .before .before .pre .1 .1 .step) (c .before .before .before .before .before .before .before .before .before .before .before .pre .1 .1 .reads)) (c .relink-edges .ensures .0);
-  },
-  (c .before .before .before .store-input .ensures .1, c .relink-edges .ensures .1),
-)
+returns c =
+    let s = c .before .before .before .before .before .before .before .before .before .before .before .before .before .before in
+    let a = s .args in
+    let l = c .before .before .before .before .before .before .before .before .before .before .before .leaving-edge in
+    let consumer = its-consumer (now (a .consumer)) (now (a .slot)) (now (a .producer)) (now (a .unordered)) (a .edges) (a .n) (l .result) (l .ensures .0) (s .pre .1 .1 .unordered) in
+    let slot = its-slot (now (a .consumer)) (now (a .slot)) (now (a .producer)) (now (a .unordered)) (a .edges) (a .n) (l .result) (l .ensures .0) (s .pre .1 .1 .unordered) in
+    let input = first-input (now (a .steps)) (a .n-steps) (a .n) (s .pre .1 .1 .step) (s .pre .1 .1 .reads) in (
+      record {
+        steps = rw (consumer, slot, input) (c .before .before .before .before .before .before .store-input .ensures .0);
+        edges = rw (← (c .before .before .before .producer-into .ensures)) (c .relink-edges .ensures .0);
+      },
+      (c .before .before .before .before .before .before .store-input .ensures .1, c .relink-edges .ensures .1),
+    )
 
 pub unlink-node-spec : {M : Type 1} → statement M
 unlink-node-spec =
@@ -59,5 +68,6 @@ unlink-node-spec =
     add-input
     element-copy-out-input
     store-input-requires
+    producer-into-requires
     relink-edges-requires
     returns)
