@@ -14,7 +14,8 @@ use Rattle.plan.specs.Sheet.{Expr, Step, no-step, step-at, expr-at}
 use Rattle.plan.specs.declared.tally.Tally.{Tally}
 use Rattle.plan.specs.declared.rules.Options.{Options}
 use Rattle.plan.specs.declared.rules.Around.{Around}
-use Rattle.plan.specs.Visit.{Run, Looked, looked-in, looks-of, options-of, with-options, ruling, ruled-step, with-implodes}
+use Rattle.plan.specs.Visit.{Run, Looked, looked-in, looks-of, options-of, with-options, with-implodes, ruling-of}
+use Rattle.plan.proofs.Settling.{ruled-step}
 use Rattle.plan.proofs.ListLaws.{sum-append}
 use Rattle.plan.proofs.Counts.{sum-eq}
 use Rattle.claims.proofs.Sums.{sum-part, sum-set, sum-set-le, sum-beside, mark, below-one}
@@ -105,7 +106,7 @@ module _ (r : Run) (sound : Sound r) (n : ℕ) where
 
   pub room-settled : length (l .end .expr-arena) + sum (still-to-append (l .end .expr-arena)) (set (r .steps) n (ruled-step n r))
       ≤ length (r .arena) + sum (still-to-append (r .arena)) (r .steps)
-  unfolding ruling
+  unfolding ruling-of
   room-settled =
       let es = r .arena in
       let end = l .end .expr-arena in

@@ -18,7 +18,8 @@ use Rattle.plan.specs.FunctionIR.{rust-functions}
 use Rattle.plan.specs.Lists.{if_then_else_, yes?}
 use Rattle.plan.specs.Sheet.{Expr, Step, done, no-step, step-at}
 use Rattle.plan.specs.Look.{look-along, look-again, simplify-projected-exprs}
-use Rattle.plan.specs.Visit.{Run, Looked, options-of, with-options, out-edge, around, arm, rule, loosened, join-fails, sink-fails, with-implodes, looks-of, looked-in, ruling, ruled-step, goes, refusal-in, settled, settle, simplify-ir-node-orders}
+use Rattle.plan.specs.Visit.{Run, Looked, options-of, with-options, out-edge, around, arm, rule, loosened, join-fails, sink-fails, with-implodes, looks-of, looked-in, ruling-of, goes, refusal-number, settled-by, settle, simplify-ir-node-orders}
+use Rattle.plan.proofs.Settling.{ruling, ruled-step, settled, refusal-in}
 
 -- what its rule loosens: into it, where it is ordered and all that leave it are not; all that leave it, where it is unordered
 abbrev pub cache-loosens : Around → Loosened
@@ -64,14 +65,14 @@ module _ (n : ℕ) (r : Run) (k : step-at (r .steps) n .kind ≡ IR.Cache) (x : 
   stepped = ap (λ (l : Looked). l .step) looked ∙ step-kept s edges (r .arena) (r .tally)
 
   ruled : ruling n r ≡ record { options = options-of (plain s); loosened = cache-loosens edges }
-  unfolding ruling
+  unfolding ruling-of looked-in looks-of
   ruled = ap (λ (y : Step). rule rust-functions (options-of y) edges (looked-in n r .observable)) stepped ∙ ruled-cache s edges (looked-in n r .observable)
 
   same-step : ruled-step n r ≡ s
   same-step = ap (λ (y : Ruled). with-options (y .options) (looked-in n r .step)) ruled ∙ ap (with-options (options-of (plain s))) stepped ∙ sym is-plain
 
   passes : refusal-in n r ≡ 0
-  unfolding refusal-in
+  unfolding refusal-number
   passes = ap (λ (y : Step). let o = looked-in n r .observable in if join-fails (options-of y) o then 10 else if sink-fails (options-of y) o then 11 else 0) stepped
 
   stays : goes n r ≡ false
@@ -89,7 +90,7 @@ module _ (n : ℕ) (r : Run) (k : step-at (r .steps) n .kind ≡ IR.Cache) (x : 
   }
 
   settled-cache : settled n r ≡ visited
-  unfolding settled
+  unfolding settled-by
   settled-cache =
       let es : looked-in n r .end .expr-arena ≡ r .arena = ap (λ (l : Looked). l .end .expr-arena) looked ∙ arena-kept s edges (r .arena) (r .tally) in
       let ts : looked-in n r .end .tally ≡ r .tally = ap (λ (l : Looked). l .end .tally) looked ∙ tally-kept s edges (r .arena) (r .tally) in

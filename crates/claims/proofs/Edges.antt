@@ -14,7 +14,8 @@ use Rattle.plan.specs.Lists.{if_then_else_, select, sum}
 use Rattle.plan.specs.Sheet.{done}
 use Rattle.plan.specs.Graph.{Edge}
 use Rattle.plan.specs.declared.rules.Loosened.{Loosened}
-use Rattle.plan.specs.Visit.{Run, simplify-ir-node-orders, unlink-node, settled, ruling, loosened, relinked, is-into, is-out-of, no-edge, out-edge, in-edge}
+use Rattle.plan.specs.Visit.{Run, simplify-ir-node-orders, unlink-node, loosened, relinked, is-into, is-out-of, no-edge, out-edge, in-edge, settled-by}
+use Rattle.plan.proofs.Settling.{ruling}
 use Rattle.plan.specs.Walks.{walk}
 use Rattle.claims.specs.Demand3.{leaving-among, Unordered-at}
 use Rattle.claims.proofs.Walks.{two-ways, walk-keeps}
@@ -124,7 +125,7 @@ at-map f (d ∷ l) (suc k) h = at-map f l k (omega arith)
 -- the edge is relinked, or loosened
 pub visit-edge : (Q : Edge → Type 0) (n : ℕ) (r : Run) {r′ : Run} → simplify-ir-node-orders n r ≡ done r′ → (k : ℕ) → k < length (r .edges)
     → ((from : Option ℕ) → Q (relinked n from (edge-at k r))) → ((l : Loosened) → Q (loosened n l (edge-at k r))) → Q (edge-at k r′)
-unfolding unlink-node settled
+unfolding unlink-node settled-by
 visit-edge Q n r e k h f g =
     elim (two-ways n r e) [
       | inl w ↦ subst (λ (q : Run). Q (edge-at k q)) (sym (w .1)) (rw at-map (f (in-edge n (r .edges) .producer)))

@@ -10,12 +10,14 @@ use mathlib.Core.List.{List, [], _∷_, _++_, List·Memᴰ, List·Memᴰ·head, 
 use lib.Dec.{T}
 use lib.ListN.{length, set, take, drop}
 use Rattle.plan.specs.declared.aexpr.AExpr.{AExpr}
+use Rattle.plan.specs.declared.looks.Before.{Before}
+use Rattle.plan.specs.declared.orders.ExprOrderAcc.{ExprOrderAcc}
 use Rattle.plan.specs.declared.orders.ObservableOrders.{ObservableOrders}
 use Rattle.plan.specs.Kinds.{same-aexpr}
-use Rattle.plan.specs.Lists.{all?}
+use Rattle.plan.specs.Lists.{if_then_else_, all?}
 use Rattle.plan.specs.Sheet.{Expr, expr-at}
-use Rattle.plan.specs.Orders.{ExprOrderAcc, add, no-orders}
-use Rattle.plan.specs.Look.{Eos, Look, look, look-along, look-along-children, look-again, look-whole, look-ended, look-at, one-look, enter-struct, switched-off, after, in-order, Before, before, check-return-cached, is-replaced, replace-by-input, ALLOW-DEORDER}
+use Rattle.plan.specs.Orders.{add, no-orders}
+use Rattle.plan.specs.Look.{Eos, Look, look, look-along, look-along-children, look-again, look-whole, look-ended, look-at, one-look, enter-struct, switched-off, after, in-order, before, check-return-cached, is-replaced, replace-by-input, ALLOW-DEORDER, NO-DEORDER}
 use Rattle.claims.specs.Limits.{Children-earlier}
 use Rattle.claims.proofs.Loads.{kids, kids-same, kids-other}
 use Rattle.claims.proofs.Changes.{sort?, Formed, earlier-of, Changes, no-change, takes-input, goes-off, changed-formed, input-of, with-input-at, input-kid, sort-inside, input-formed, off-formed, implode-inside}
@@ -105,16 +107,16 @@ module _ (f g : ℕ) (rec rec′ : Look) (B : Bounded rec) (A : Agree f g rec re
       let a = look-along rec (b .first) (take 1 qs) [] no-orders s in
       let s₁ = enter-struct e (a .0) (a .2) in
       let c = spent-along rec B (b .first) (take 1 qs) [] no-orders s k .goes .changes in
-      along-same (b .others) (drop 1 qs) (a .0) (a .1) s₁ (changed-formed c k)
+      along-same NO-DEORDER (drop 1 qs) (a .0) (a .1) s₁ (changed-formed c k)
       (later-lows f g (drop 1 qs) s s₁ k c (λ z i. l z (of-drop qs z i)))
-      ∙ ap (λ (r : List ObservableOrders × ExprOrderAcc × Eos). look-along rec′ (b .others) (drop 1 qs) (r .0) (r .1) (enter-struct e (r .0) (r .2)))
+      ∙ ap (λ (r : List ObservableOrders × ExprOrderAcc × Eos). look-along rec′ NO-DEORDER (drop 1 qs) (r .0) (r .1) (enter-struct e (r .0) (r .2)))
       (along-same (b .first) (take 1 qs) [] no-orders s k (λ z i. l z (of-take qs z i)))
 
   again-same : (again : Bool) (x : ExprOrderAcc) (s : Eos) → Formed (s .expr-arena)
-      → (T again → Low f (s .expr-arena) (x .last-ordered-node) × Low g (s .expr-arena) (x .last-ordered-node))
+      → (T again → Low f (s .expr-arena) (x .«last_ordered_node») × Low g (s .expr-arena) (x .«last_ordered_node»))
       → look-again rec again x s ≡ look-again rec′ again x s
   unfolding look-again
-  again-same true x s k l = A ALLOW-DEORDER (x .last-ordered-node) s k (l tt .0) (l tt .1)
+  again-same true x s k l = A ALLOW-DEORDER (x .«last_ordered_node») s k (l tt .0) (l tt .1)
   again-same false x s k l = refl
 
   whole-same : (allow : Bool) (p : ℕ) (e : Expr) (s : Eos) → Formed (s .expr-arena)
@@ -128,11 +130,14 @@ module _ (f g : ℕ) (rec rec′ : Look) (B : Bounded rec) (A : Agree f g rec re
       let a = look-along-children rec e b s in
       let c = children-spent rec B e b s k .goes .changes in
       let end : List ObservableOrders × ExprOrderAcc × Eos → ObservableOrders × Eos → ObservableOrders × Eos =
-      λ r i. let v = after e allow field (r .0) (r .1) (e .kind) in (v .answer (i .0), look-ended p e v (v .answer (i .0)) field (r .0) (i .1)) in
+      λ r i.
+      let v = after e allow field (r .0) (r .1) (e .kind) in
+      let o = if v .again then v .answer-again (i .0) else v .answer in
+      (o, look-ended p e v o field (r .0) (i .1)) in
       let again : List ObservableOrders × ExprOrderAcc × Eos → Bool = λ r. after e allow field (r .0) (r .1) (e .kind) .again in
-      let lows : T (again a) → Low f (a .2 .expr-arena) (a .1 .last-ordered-node) × Low g (a .2 .expr-arena) (a .1 .last-ordered-node) =
+      let lows : T (again a) → Low f (a .2 .expr-arena) (a .1 .«last_ordered_node») × Low g (a .2 .expr-arena) (a .1 .«last_ordered_node») =
       λ t.
-      later-lows f g qs s (a .2) k c l (a .1 .last-ordered-node)
+      later-lows f g qs s (a .2) k c l (a .1 .«last_ordered_node»)
       (single-of-children rec e b s (looks-again e allow field (a .0) (a .1) (e .kind) t .one)) in
       ap (end a) (again-same (again a) (a .1) (a .2) (changed-formed c k) lows)
       ∙ ap (λ (r : List ObservableOrders × ExprOrderAcc × Eos). end r (look-again rec′ (again r) (r .1) (r .2))) (children-same e b s k l)

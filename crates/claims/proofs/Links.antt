@@ -13,7 +13,8 @@ use Rattle.plan.specs.declared.ir.IR.{IR}
 use Rattle.plan.specs.Lists.{if_then_else_, sum, times}
 use Rattle.plan.specs.Sheet.{Step, done, step-at}
 use Rattle.plan.specs.Graph.{Edge}
-use Rattle.plan.specs.Visit.{Run, simplify-ir-node-orders, goes, unlink-node, settled, ruling, ruled-step, loosened, relinked, is-into, is-out-of, no-edge, out-edge, in-edge}
+use Rattle.plan.specs.Visit.{Run, simplify-ir-node-orders, goes, unlink-node, loosened, relinked, is-into, is-out-of, no-edge, out-edge, in-edge, settled-by}
+use Rattle.plan.proofs.Settling.{settled, ruling, ruled-step}
 use Rattle.claims.specs.Demand3.{leaving}
 use Rattle.plan.proofs.Booleans.{differ, equal}
 use Rattle.plan.proofs.Counts.{true-of, T-of, not-both, of-map, mem-at, some-counted, only-one, count-map, count-same, count-none, count-balance, times-same, times-other, times-of}
@@ -142,7 +143,7 @@ module _ (ps : List Step) (n : ℕ) (rest : List ℕ) (r : Run) (g : Linked ps (
         still-ordered d e f = rw (e, f, sort-holds-out n r (sort-kind (step-at (r .steps) n) (sort-now t))) (nothing (is-out-of n d))
 
     settled-linked : Linked ps rest (settled n r)
-    unfolding settled sum
+    unfolding settled-by sum
     settled-linked = record {
       sorts = λ k. sorts-kept (r .steps) n (ruled-step n r) (ruling-sort n r) k ∙ g .sorts k;
       once = λ k t. omega (arith, g .once k t);

@@ -89,12 +89,12 @@ list-spent qs allow s g =
     let x = l .1 in
     let again = single x && allow in
     let a = spent-along rec B NO-DEORDER qs [] no-orders s g in
-    let s₂ = internal-observe (if x .saw-mixed-inputs then x .acc else ∅) (l .2) in
+    let s₂ = internal-observe (if x .«saw_mixed_inputs» then x .acc else ∅) (l .2) in
     let a₂ : Spent-along qs s s₂ =
     record { goes = record { changes = a .goes .changes; keeps = a .goes .keeps }; outside = a .outside; looks = a .looks } in
-    let m : T again → List·Memᴰ (x .last-ordered-node) qs = λ t. single-of-list rec NO-DEORDER qs s (and-left (single x) allow t) in
+    let m : T again → List·Memᴰ (x .«last_ordered_node») qs = λ t. single-of-list rec NO-DEORDER qs s (and-left (single x) allow t) in
     let b = spent-again rec B again x qs s s₂ g a₂ m in
-    let c = at-most-all again (x .last-ordered-node) qs (size (s .expr-arena)) m in
+    let c = at-most-all again (x .«last_ordered_node») qs (size (s .expr-arena)) m in
     record { goes = b .goes; outside = b .outside; looks = omega (arith, b .looks) }
 
 -- the bound that is reached: n × (n + 3) ÷ 2

@@ -9,12 +9,14 @@ use mathlib.Core.List.{List, [], _∷_, _++_, List·Memᴰ, List·Memᴰ·head, 
 use lib.Dec.{T, eqb→eq}
 use lib.ListN.{take, drop}
 use Rattle.plan.specs.declared.aexpr.AExpr.{AExpr}
+use Rattle.plan.specs.declared.looks.Before.{Before}
+use Rattle.plan.specs.declared.orders.ExprOrderAcc.{ExprOrderAcc}
 use Rattle.plan.specs.declared.orders.ObservableOrders.{ObservableOrders}
 use Rattle.plan.specs.FunctionFlags.{observes-input-order, terminates-input-order}
 use Rattle.plan.specs.Lists.{if_then_else_, sum, first-last}
 use Rattle.plan.specs.Sheet.{Expr}
-use Rattle.plan.specs.Orders.{ExprOrderAcc, no-orders, add, single, is-empty}
-use Rattle.plan.specs.Look.{Eos, Look, Before, before, after, in-order, enter-struct, look-along, look-along-children}
+use Rattle.plan.specs.Orders.{no-orders, add, single, is-empty}
+use Rattle.plan.specs.Look.{Eos, Look, before, after, in-order, enter-struct, look-along, look-along-children, NO-DEORDER}
 use Rattle.plan.proofs.ListLaws.{and-left, and-right, sum-append}
 
 or-right : (a b : Bool) → T b → T (a || b)
@@ -28,9 +30,9 @@ module _ (e : Expr) (allow : Bool) (field : ObservableOrders) (os : List Observa
     pub checks : T (before e allow k .checks)
     pub caches : T (after e allow field os x k .caches)
 
-  one-of-else : (b : Bool) → T (not (x .saw-mixed-inputs) && single x && b) → T (single x)
+  one-of-else : (b : Bool) → T (not (x .«saw_mixed_inputs») && single x && b) → T (single x)
   one-of-else b t =
-      and-right (not (x .saw-mixed-inputs)) (single x) (and-left (not (x .saw-mixed-inputs) && single x) b t)
+      and-right (not (x .«saw_mixed_inputs»)) (single x) (and-left (not (x .«saw_mixed_inputs») && single x) b t)
 
   pub looks-again : (k : AExpr) → T (after e allow field os x k .again) → Again k
   unfolding after before
@@ -39,8 +41,8 @@ module _ (e : Expr) (allow : Bool) (field : ObservableOrders) (os : List Observa
   looks-again AExpr.Element t = absurd t
   looks-again AExpr.StructField t = absurd t
   looks-again AExpr.Len t = absurd t
-  looks-again AExpr.BinaryExpr t = record { one = one-of-else allow t; checks = tt; caches = or-right (x .saw-mixed-inputs) _ t }
-  looks-again AExpr.Ternary t = record { one = one-of-else allow t; checks = tt; caches = or-right (x .saw-mixed-inputs) _ t }
+  looks-again AExpr.BinaryExpr t = record { one = one-of-else allow t; checks = tt; caches = or-right (x .«saw_mixed_inputs») _ t }
+  looks-again AExpr.Ternary t = record { one = one-of-else allow t; checks = tt; caches = or-right (x .«saw_mixed_inputs») _ t }
   looks-again AExpr.Cast t = absurd t
   looks-again AExpr.Explode t = absurd t
   looks-again AExpr.Sort t = absurd t
@@ -49,7 +51,7 @@ module _ (e : Expr) (allow : Bool) (field : ObservableOrders) (os : List Observa
   looks-again AExpr.Gather t = absurd t
   looks-again AExpr.Slice t = absurd t
   looks-again AExpr.Eval t = absurd t
-  looks-again AExpr.StructEval t = record { one = one-of-else allow t; checks = tt; caches = or-right (x .saw-mixed-inputs) _ t }
+  looks-again AExpr.StructEval t = record { one = one-of-else allow t; checks = tt; caches = or-right (x .«saw_mixed_inputs») _ t }
   looks-again AExpr.Over t = absurd t
   looks-again AExpr.Rolling t = absurd t
   looks-again AExpr.MinBy t = absurd t
@@ -58,7 +60,7 @@ module _ (e : Expr) (allow : Bool) (field : ObservableOrders) (os : List Observa
       record {
         one = and-left (single x) calm (and-left (single x && calm) (allow || terminates-input-order (e .option)) t);
         checks = tt;
-        caches = or-right (x .saw-mixed-inputs) _ t;
+        caches = or-right (x .«saw_mixed_inputs») _ t;
       }
   looks-again AExpr.AnonymousAgg t = absurd t
   looks-again AExpr.First t = absurd t
@@ -69,13 +71,13 @@ module _ (e : Expr) (allow : Bool) (field : ObservableOrders) (os : List Observa
 -- The last ordered child is a child ----------------------------------------------------------------------------------------
 
 abbrev Last : List ℕ → ExprOrderAcc → Type 0
-Last qs x = 1 ≤ x .num-ordered-inputs → List·Memᴰ (x .last-ordered-node) qs
+Last qs x = 1 ≤ x .«num_ordered_inputs» → List·Memᴰ (x .«last_ordered_node») qs
 
 last-add : (all : List ℕ) (x : ExprOrderAcc) (o : ObservableOrders) (q : ℕ) → List·Memᴰ q all → Last all x → Last all (add x o q)
 unfolding add
 last-add all x o q m l = by (is-empty o)
   where
-    by : (b : Bool) → 1 ≤ (if b then x .num-ordered-inputs else x .num-ordered-inputs + 1) → List·Memᴰ (if b then x .last-ordered-node else q) all
+    by : (b : Bool) → 1 ≤ (if b then x .«num_ordered_inputs» else x .«num_ordered_inputs» + 1) → List·Memᴰ (if b then x .«last_ordered_node» else q) all
     by true h = l h
     by false h = m
 
@@ -88,8 +90,8 @@ last-along all rec m (q ∷ qs) os x s i l =
 none-yet : (all : List ℕ) → Last all no-orders
 none-yet all h = absurd (not-suc-le-zero h)
 
-at-least-one : (x : ExprOrderAcc) → T (single x) → 1 ≤ x .num-ordered-inputs
-at-least-one x t = omega (arith, eqb→eq (x .num-ordered-inputs) 1 t)
+at-least-one : (x : ExprOrderAcc) → T (single x) → 1 ≤ x .«num_ordered_inputs»
+at-least-one x t = omega (arith, eqb→eq (x .«num_ordered_inputs») 1 t)
 
 pub of-take : (qs : List ℕ) (q : ℕ) → List·Memᴰ q (take 1 qs) → List·Memᴰ q qs
 of-take [] q m = m
@@ -102,21 +104,21 @@ of-drop (c ∷ qs) q m = List·Memᴰ·tail m
 -- of a list, and of a record's children
 pub single-of-list : (rec : Look) (m : Bool) (qs : List ℕ) (s : Eos)
     → let x = look-along rec m qs [] no-orders s .1 in
-    T (single x) → List·Memᴰ (x .last-ordered-node) qs
+    T (single x) → List·Memᴰ (x .«last_ordered_node») qs
 single-of-list rec m qs s t =
     last-along qs rec m qs [] no-orders s (λ q k. k) (none-yet qs) (at-least-one (look-along rec m qs [] no-orders s .1) t)
 
 pub single-of-children : (rec : Look) (e : Expr) (b : Before) (s : Eos)
     → let x = look-along-children rec e b s .1 in
-    T (single x) → List·Memᴰ (x .last-ordered-node) (in-order b (e .children))
+    T (single x) → List·Memᴰ (x .«last_ordered_node») (in-order b (e .children))
 unfolding look-along-children
 single-of-children rec e b s t =
     let qs = in-order b (e .children) in
     let l = look-along rec (b .first) (take 1 qs) [] no-orders s in
     let s₁ = enter-struct e (l .0) (l .2) in
-    last-along qs rec (b .others) (drop 1 qs) (l .0) (l .1) s₁ (of-drop qs)
+    last-along qs rec NO-DEORDER (drop 1 qs) (l .0) (l .1) s₁ (of-drop qs)
     (last-along qs rec (b .first) (take 1 qs) [] no-orders s (of-take qs) (none-yet qs))
-    (at-least-one (look-along rec (b .others) (drop 1 qs) (l .0) (l .1) s₁ .1) t)
+    (at-least-one (look-along rec NO-DEORDER (drop 1 qs) (l .0) (l .1) s₁ .1) t)
 
 -- The order of the looks ---------------------------------------------------------------------------------------------------
 

@@ -10,12 +10,13 @@ use lib.Dec.{T}
 use lib.ListN.{getD, set, take, drop}
 use lib.Seq.{getD-set-same, getD-set-other}
 use Rattle.plan.specs.declared.aexpr.AExpr.{AExpr}
+use Rattle.plan.specs.declared.looks.Before.{Before}
 use Rattle.plan.specs.declared.orders.ObservableOrders.{ObservableOrders}
 use Rattle.plan.specs.Kinds.{same-aexpr}
 use Rattle.plan.specs.Lists.{if_then_else_, all?, sum, yes?}
 use Rattle.plan.specs.Sheet.{Expr, no-expr, expr-at}
 use Rattle.plan.specs.Orders.{∅, no-orders, is-empty}
-use Rattle.plan.specs.Look.{Eos, Look, look, look-along, look-along-children, look-again, look-at, look-whole, look-ended, one-look, with-field, with-arena, check-return-cached, is-replaced, Before, before, After, after, in-order, loses-order, switched-off, replace-implode, cache-output, internal-observe, enter-struct}
+use Rattle.plan.specs.Look.{Eos, Look, look, look-along, look-along-children, look-again, look-at, look-whole, look-ended, one-look, with-field, with-arena, check-return-cached, is-replaced, before, After, after, in-order, loses-order, switched-off, replace-implode, cache-output, internal-observe, enter-struct, NO-DEORDER}
 use Rattle.plan.proofs.ListLaws.{and-left}
 use Rattle.claims.proofs.Sums.{sum-part, sum-none, mark}
 use Rattle.claims.proofs.Loads.{kids, load, size, load-kids, later-none, outside-own}
@@ -80,7 +81,7 @@ children-spent rec B e b s g =
     let a = spent-along rec B (b .first) (take 1 qs) [] no-orders s g in
     let a₁ : Spent-along (take 1 qs) s s₁ =
     record { goes = record { changes = a .goes .changes; keeps = a .goes .keeps }; outside = a .outside; looks = a .looks } in
-    spent-parts qs g a₁ (spent-along rec B (b .others) (drop 1 qs) (l .0) (l .1) s₁ (changed-formed (a .goes .changes) g))
+    spent-parts qs g a₁ (spent-along rec B NO-DEORDER (drop 1 qs) (l .0) (l .1) s₁ (changed-formed (a .goes .changes) g))
 
 -- after the children of p, at s₃, having looked at c again or not
 module _ (p : ℕ) (s₀ s₃ : Eos) (b : Before) (again : Bool) (c : ℕ) (g : Formed (s₀ .expr-arena)) where
@@ -167,10 +168,11 @@ whole-spent rec B allow p s₀ g unseen =
     let v = after e₀ allow field (l .0) (l .1) (e₀ .kind) in
     let i = look-again rec (v .again) (l .1) (l .2) in
     let t = looks-again e₀ allow field (l .0) (l .1) (e₀ .kind) in
-    let m : T (v .again) → List·Memᴰ (l .1 .last-ordered-node) (in-order b (e₀ .children)) =
+    let m : T (v .again) → List·Memᴰ (l .1 .«last_ordered_node») (in-order b (e₀ .children)) =
     λ a. single-of-children rec e₀ b (one-look s₀) (t a .one) in
     let a = spent-again rec B (v .again) (l .1) (in-order b (e₀ .children)) (one-look s₀) (l .2) g (children-spent rec B e₀ b (one-look s₀) g) m in
-    ended-spent p s₀ (i .1) b (v .again) (l .1 .last-ordered-node) g a v (λ a. (unseen (t a .checks), t a .caches, m a)) allow (v .answer (i .0)) field (l .0)
+    ended-spent p s₀ (i .1) b (v .again) (l .1 .«last_ordered_node») g a v (λ a. (unseen (t a .checks), t a .caches, m a)) allow
+    (if v .again then v .answer-again (i .0) else v .answer) field (l .0)
 
 -- a record that is replaced is a sort, looked at with leave
 replaced-allowed : (allow x y z : Bool) → T (allow && (x || (y && z))) → T allow

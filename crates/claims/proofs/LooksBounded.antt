@@ -9,7 +9,8 @@ use lib.ListN.{length, set}
 use Rattle.plan.specs.Lists.{sum}
 use Rattle.plan.specs.Sheet.{Expr, Step, Sheet, done, no-step, step-at}
 use Rattle.plan.specs.Graph.{graph}
-use Rattle.plan.specs.Visit.{Run, simplify-ir-node-orders, unlink-node, settled, looked-in, ruling, ruled-step, out-edge}
+use Rattle.plan.specs.Visit.{Run, simplify-ir-node-orders, unlink-node, looked-in, out-edge, ruling-of, settled-by}
+use Rattle.plan.proofs.Settling.{settled, ruled-step}
 use Rattle.plan.specs.Walks.{begin, down}
 use Rattle.claims.specs.WellFormed.{Accepted, WellFormed}
 use Rattle.plan.specs.Conditions.{Down, Up}
@@ -56,7 +57,7 @@ module _ (r : Run) (sound : Sound r) where
       )
 
   once-settled : (n : ℕ) → Once (looked-in n r .end .expr-arena) (set (r .steps) n (ruled-step n r))
-  unfolding ruling
+  unfolding ruling-of
   once-settled n w =
       let l = looked-in n r in
       let es′ = l .start .expr-arena in
@@ -73,7 +74,7 @@ module _ (r : Run) (sound : Sound r) where
       )
 
   pub sound-settled : (n : ℕ) → Sound (settled n r)
-  unfolding settled looked-in ruling
+  unfolding settled-by looked-in ruling-of
   sound-settled n = record { formed = changed-formed (looks-change r sound n) (imploded-start r sound n .formed); once = once-settled n }
 
 pub sound-visit : (n : ℕ) (ns : List ℕ) (r r′ : Run) → Sound r → simplify-ir-node-orders n r ≡ done r′ → Sound r′

@@ -10,11 +10,12 @@ use mathlib.Core.List.{List, [], _∷_, _++_, List·Memᴰ, List·Memᴰ·not-ni
 use lib.Dec.{T}
 use lib.ListN.{length, take, drop, length-append}
 use Rattle.plan.specs.declared.aexpr.AExpr.{AExpr}
+use Rattle.plan.specs.declared.orders.ExprOrderAcc.{ExprOrderAcc}
 use Rattle.plan.specs.declared.orders.ObservableOrders.{ObservableOrders}
 use Rattle.plan.specs.Kinds.{same-aexpr}
 use Rattle.plan.specs.Lists.{if_then_else_, all?, sum}
 use Rattle.plan.specs.Sheet.{expr-at}
-use Rattle.plan.specs.Orders.{∅, ExprOrderAcc, no-orders, add, single}
+use Rattle.plan.specs.Orders.{∅, no-orders, add, single}
 use Rattle.plan.specs.Look.{Eos, Look, before, after, in-order, check-return-cached, is-replaced, replace-by-input, enter-struct, internal-observe, one-look, look, look-along, look-along-children, look-again, look-whole, look-ended, look-at, simplify-projected-exprs, ALLOW-DEORDER, NO-DEORDER}
 use Rattle.plan.proofs.ListLaws.{and-left}
 use Rattle.claims.specs.LooksMade.{Made, made-along, made-again, made-whole, made-at, made, made-in-list}
@@ -63,14 +64,14 @@ module _ (rec : Look) (made : Made) (B : Bounded rec) (L : Logs rec made) where
       (along-logged m qs (os ++ (rec m q s .0 ∷ [])) (add x (rec m q s .0) q) (rec m q s .1) (changed-formed (a .goes .changes) g))
 
   again-logged : (again : Bool) (x : ExprOrderAcc) (qs : List ℕ) (s : Eos) → Formed (s .expr-arena)
-      → (T again → List·Memᴰ (x .last-ordered-node) qs) → Logged qs s (look-again rec again x s .1) (made-again rec made again x s)
+      → (T again → List·Memᴰ (x .«last_ordered_node») qs) → Logged qs s (look-again rec again x s .1) (made-again rec made again x s)
   unfolding look-again made-again sum
   again-logged false x qs s g m = nothing-logged qs s
   again-logged true x qs s g m =
-      let a = L ALLOW-DEORDER (x .last-ordered-node) s g in
+      let a = L ALLOW-DEORDER (x .«last_ordered_node») s g in
       record {
         counted = a .counted;
-        own = λ v k. omega (arith, a .own v k, sum-part (load (mark v) (s .expr-arena)) qs (x .last-ordered-node) (m tt));
+        own = λ v k. omega (arith, a .own v k, sum-part (load (mark v) (s .expr-arena)) qs (x .«last_ordered_node») (m tt));
       }
 
   -- the looks at the children of p, one of them again or not
@@ -88,7 +89,7 @@ module _ (rec : Look) (made : Made) (B : Bounded rec) (L : Logs rec made) where
       let c = spent-along rec B (b .first) (take 1 qs) [] no-orders s g .goes .changes in
       let a = along-logged (b .first) (take 1 qs) [] no-orders s g in
       let a₁ : Logged (take 1 qs) s s₁ (made-along rec made (b .first) (take 1 qs) s) = record { counted = a .counted; own = a .own } in
-      let a₂ = along-logged (b .others) (drop 1 qs) (l .0) (l .1) s₁ (changed-formed c g) in
+      let a₂ = along-logged NO-DEORDER (drop 1 qs) (l .0) (l .1) s₁ (changed-formed c g) in
       let k = look-along-children rec e b s in
       let v = after e allow (s .struct-field-ordering) (k .0) (k .1) (e .kind) in
       let c₂ = children-spent rec B e b s g .goes .changes in
@@ -165,7 +166,7 @@ list-logged qs allow s g =
     let L = look-logged (length (s .expr-arena)) in
     let l = look-along rec NO-DEORDER qs [] no-orders s in
     let x = l .1 in
-    let s₂ = internal-observe (if x .saw-mixed-inputs then x .acc else ∅) (l .2) in
+    let s₂ = internal-observe (if x .«saw_mixed_inputs» then x .acc else ∅) (l .2) in
     let c = spent-along rec B NO-DEORDER qs [] no-orders s g .goes .changes in
     let a = along-logged rec (made (length (s .expr-arena))) B L NO-DEORDER qs [] no-orders s g in
     let a₂ : Logged qs s s₂ (made-along rec (made (length (s .expr-arena))) NO-DEORDER qs s) = record { counted = a .counted; own = a .own } in

@@ -9,10 +9,11 @@ use mathlib.Core.List.{List, [], _∷_, _++_, List·Memᴰ, List·Memᴰ·head, 
 use lib.Dec.{T}
 use lib.ListN.{take, drop}
 use lib.Seq.{getD-set-other}
+use Rattle.plan.specs.declared.orders.ExprOrderAcc.{ExprOrderAcc}
 use Rattle.plan.specs.declared.orders.ObservableOrders.{ObservableOrders}
 use Rattle.plan.specs.Lists.{if_then_else_, sum}
 use Rattle.plan.specs.Sheet.{Expr, no-expr, expr-at}
-use Rattle.plan.specs.Orders.{ExprOrderAcc, add}
+use Rattle.plan.specs.Orders.{add}
 use Rattle.plan.specs.Look.{Eos, Look, look-along, look-again, one-look, ALLOW-DEORDER, replace-by-input}
 use Rattle.plan.proofs.Counts.{sum-le}
 use Rattle.claims.proofs.Sums.{sum-part, mark}
@@ -156,12 +157,12 @@ pub record Spent-again (qs : List ℕ) (again : Bool) (c : ℕ) (s s′ : Eos) :
   pub looks : s′ .tally .looks + sum (Φ s′) qs ≤ s .tally .looks + sum (size (s .expr-arena)) qs + sum (Φ s) qs + (if again then size (s .expr-arena) c else 0)
 
 pub spent-again : (rec : Look) → Bounded rec → (again : Bool) (x : ExprOrderAcc) (qs : List ℕ) (s s₂ : Eos) → Formed (s .expr-arena) → Spent-along qs s s₂
-    → (T again → List·Memᴰ (x .last-ordered-node) qs)
-    → Spent-again qs again (x .last-ordered-node) s (look-again rec again x s₂ .1)
+    → (T again → List·Memᴰ (x .«last_ordered_node») qs)
+    → Spent-again qs again (x .«last_ordered_node») s (look-again rec again x s₂ .1)
 unfolding look-again
 spent-again rec B false x qs s s₂ g a m = record { goes = a .goes; outside = a .outside; looks = omega (arith, a .looks) }
 spent-again rec B true x qs s s₂ g a m =
-    let c = x .last-ordered-node in
+    let c = x .«last_ordered_node» in
     let g₂ = changed-formed (a .goes .changes) g in
     let b = B ALLOW-DEORDER c s₂ g₂ in
     record {

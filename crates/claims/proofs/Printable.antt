@@ -13,7 +13,8 @@ use Rattle.plan.specs.Lists.{if_then_else_}
 use Rattle.plan.specs.Sheet.{Expr, Step, done, no-expr, no-step, expr-at, step-at}
 use Rattle.plan.specs.Graph.{Edge}
 use Rattle.plan.specs.declared.rules.Options.{Options}
-use Rattle.plan.specs.Visit.{Run, implode, implode-over, imploded, with-implodes, looks-of, looked-in, options-of, with-options, ruling, out-edge, no-edge, is-into, is-out-of, relinked, with-input, unlink-node, settled, simplify-ir-node-orders}
+use Rattle.plan.specs.Visit.{Run, implode, implode-over, imploded, with-implodes, looks-of, looked-in, options-of, with-options, out-edge, no-edge, is-into, is-out-of, relinked, with-input, unlink-node, simplify-ir-node-orders, ruling-of, settled-by}
+use Rattle.plan.proofs.Settling.{settled}
 use Rattle.claims.proofs.Walks.{two-ways}
 use Rattle.claims.proofs.Every.{Every, every-set, every-append, every-map}
 use Rattle.claims.proofs.Changes.{Changes, no-change, takes-input, goes-off}
@@ -136,7 +137,7 @@ module _ (r : Run) (k : Printable r) (n : ℕ) where
       }
 
   printable-settled : Sound r → Printable (settled n r)
-  unfolding settled looked-in ruling looks-of
+  unfolding settled-by looked-in ruling-of looks-of
   printable-settled sound =
       let s = step-at (r .steps) n in
       let l = looked-in n r in

@@ -13,7 +13,7 @@ use Rattle.plan.specs.Kinds.{same-ir}
 use Rattle.plan.specs.Lists.{yes?, sum, times}
 use Rattle.plan.specs.Sheet.{Sheet, Outcome, done, step-at}
 use Rattle.plan.specs.Graph.{Edge, graph}
-use Rattle.plan.specs.Visit.{Run, simplify-ir-node-orders, goes, unlink-node, settled, is-out-of, no-edge, out-edge}
+use Rattle.plan.specs.Visit.{Run, simplify-ir-node-orders, goes, unlink-node, is-out-of, no-edge, out-edge, settled-by}
 use Rattle.plan.specs.Walks.{walk, trace, then-all, begin, down, up}
 use Rattle.plan.proofs.ListLaws.{and-right}
 use Rattle.claims.specs.WellFormed.{Accepted}
@@ -39,7 +39,7 @@ use Rattle.claims.proofs.NoCacheAfter.{none-after}
 -- a visit removes just the step that it is at, if that goes
 pub removes : (n : ℕ) (r r′ : Run) → simplify-ir-node-orders n r ≡ done r′
     → ((goes n r ≡ true) × (r′ .removed ≡ n ∷ r .removed) × (r′ .back ≡ r .back)) ⊎ ((r′ .removed ≡ r .removed) × (r′ .back ≡ n ∷ r .back))
-unfolding unlink-node settled
+unfolding unlink-node settled-by
 removes n r r′ e =
     elim (two-ways n r e) [
       | inl w ↦ inl (w .0, ap (λ (q : Run). q .removed) (w .1), ap (λ (q : Run). q .back) (w .1))

@@ -5,9 +5,10 @@ use native.Mathlib.Omega.{arith}
 use mathlib.Core.Bool.{Bool, true, false}
 use mathlib.Core.Option.{Option, none, some}
 use lib.Dec.{T, eqb, eqb-refl}
+use Rattle.plan.specs.declared.looks.Before.{Before}
 use Rattle.plan.specs.declared.orders.ObservableOrders.{ObservableOrders}
 use Rattle.plan.specs.Lists.{if_then_else_}
-use Rattle.plan.specs.Look.{Eos, Before, cache-output, check-return-cached}
+use Rattle.plan.specs.Look.{Eos, cache-output, check-return-cached}
 
 abbrev is-some : Option ObservableOrders → Bool
 is-some none = false

@@ -8,7 +8,8 @@ use mathlib.Core.List.{List, [], _∷_, List·Memᴰ·head, List·Memᴰ·not-ni
 use lib.Dec.{T}
 use Rattle.plan.specs.Sheet.{Step, done, step-at}
 use Rattle.plan.specs.Graph.{Edge}
-use Rattle.plan.specs.Visit.{Run, simplify-ir-node-orders, goes, settled, ruling, ruled-step, loosened, is-out-of, no-edge, out-edge}
+use Rattle.plan.specs.Visit.{Run, simplify-ir-node-orders, goes, loosened, is-out-of, no-edge, out-edge, settled-by}
+use Rattle.plan.proofs.Settling.{ruling, ruled-step}
 use Rattle.claims.proofs.Walks.{two-ways}
 use Rattle.plan.proofs.Counts.{false-of, T-of, not-both, mem-at, counted-in, only-one, count-map}
 use Rattle.claims.proofs.Edges.{edge-at, outs, out-edge-there}
@@ -38,7 +39,7 @@ rising-stays ps gone n rest r g =
 
 pub rising-visit : (ps : List Step) (gone : List ℕ) (n : ℕ) (rest : List ℕ) (r r′ : Run) → Rising ps gone (n ∷ rest) r → simplify-ir-node-orders n r ≡ done r′
     → Rising ps gone rest r′
-unfolding settled
+unfolding settled-by
 rising-visit ps gone n rest r r′ g e =
     elim (two-ways n r e) [
       | inl w ↦ absurd (not-both (goes n r) (T-of (goes n r) (w .0)) (rising-stays ps gone n rest r g))

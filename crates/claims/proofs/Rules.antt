@@ -15,7 +15,8 @@ use Rattle.plan.specs.declared.rules.Ruled.{Ruled}
 use Rattle.plan.specs.Kinds.{keep-strategy-number, maintain-order-number, join-type, same-join-type}
 use Rattle.plan.specs.FunctionIR.{Functions, rust-functions}
 use Rattle.plan.specs.Lists.{if_then_else_}
-use Rattle.plan.specs.Visit.{Run, looked-in, ruling, around, arm, options-of, unmaintained-if, unordered-union, merge-sorted-all, kept-by-rhs, distinct-out, distinct-in, distinct-keeps, sink-in, sort-in, group-by-out, union-all}
+use Rattle.plan.specs.Visit.{Run, looked-in, arm, options-of, unmaintained-if, unordered-union, merge-sorted-all, kept-by-rhs, distinct-out, distinct-in, distinct-keeps, sink-in, sort-in, group-by-out, union-all, ruling-of}
+use Rattle.plan.proofs.Settling.{ruling}
 
 -- the options as they are printed
 pub record Small (s : Options) : Type 0 where
@@ -92,7 +93,7 @@ module _ (s : Options) (e : Around) (o : Observable) where
 
 -- the rule of a visit
 pub ruled-by : (n : ℕ) (r : Run) → After-rule (options-of (looked-in n r .step)) (ruling n r .options)
-unfolding ruling
+unfolding ruling-of
 ruled-by n r =
     let l = looked-in n r in
-    after (options-of (l .step)) (around n (r .edges)) (l .observable) rust-functions (l .step .kind)
+    after (options-of (l .step)) (l .around) (l .observable) rust-functions (l .step .kind)

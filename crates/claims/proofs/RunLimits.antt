@@ -13,7 +13,8 @@ use Rattle.plan.specs.Kinds.{same-ir}
 use Rattle.plan.specs.Lists.{if_then_else_, sum}
 use Rattle.plan.specs.Sheet.{Expr, Step, Sheet, done, no-step, expr-at, step-at, expr-count, over-limits}
 use Rattle.plan.specs.Graph.{graph}
-use Rattle.plan.specs.Visit.{Run, simplify-ir-node-orders, unlink-node, settled, looked-in, looks-of, ruling, out-edge, with-input}
+use Rattle.plan.specs.Visit.{Run, simplify-ir-node-orders, unlink-node, looked-in, looks-of, out-edge, with-input, ruling-of, settled-by}
+use Rattle.plan.proofs.Settling.{settled}
 use Rattle.plan.specs.Walks.{begin, down, up}
 use Rattle.claims.specs.WellFormed.{WellFormed}
 use Rattle.plan.specs.Conditions.{Down, Up}
@@ -106,7 +107,7 @@ module _ {most left : ℕ} (r : Run) (k : Within most (suc left) r) (n : ℕ) wh
   end-within = omega (arith, room-settled r (k .sound) n, k .room)
 
   within-settled : Within most left (settled n r)
-  unfolding settled looked-in ruling
+  unfolding settled-by looked-in ruling-of
   within-settled =
       record {
         sound = sound-settled r (k .sound) n;
@@ -118,7 +119,7 @@ module _ {most left : ℕ} (r : Run) (k : Within most (suc left) r) (n : ℕ) wh
       }
 
   pub visit-limits : most ≤ 2 ^ 32 → Visit-limits n r
-  unfolding settled looked-in
+  unfolding settled-by looked-in
   visit-limits h =
       record {
         before =

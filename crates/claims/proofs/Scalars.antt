@@ -6,10 +6,11 @@ use native.Mathlib.Omega.{arith}
 use mathlib.Core.Bool.{Bool, true, false, _&&_}
 use mathlib.Core.List.{List, [], _∷_, _++_, List·Memᴰ, List·Memᴰ·cases-cons, List·Memᴰ·not-nil}
 use lib.ListN.{length}
+use Rattle.plan.specs.declared.orders.ExprOrderAcc.{ExprOrderAcc}
 use Rattle.plan.specs.declared.orders.ObservableOrders.{ObservableOrders}
 use Rattle.plan.specs.Lists.{if_then_else_, sum}
 use Rattle.plan.specs.Sheet.{Expr, expr-at}
-use Rattle.plan.specs.Orders.{∅, ExprOrderAcc, add, no-orders, single}
+use Rattle.plan.specs.Orders.{∅, add, no-orders, single}
 use Rattle.plan.specs.Look.{Eos, Look, look, look-along, look-again, simplify-projected-exprs, internal-observe, NO-DEORDER}
 use Rattle.claims.proofs.Sums.{sum-part, mark}
 use Rattle.claims.proofs.Loads.{load, load-own}
@@ -52,7 +53,7 @@ unfolding simplify-projected-exprs look-again
 list-scalar qs s g x h m =
     let rec : Look = look (length (s .expr-arena)) in
     let l = look-along rec NO-DEORDER qs [] no-orders s in
-    let s₂ = internal-observe (if l .1 .saw-mixed-inputs then l .1 .acc else ∅) (l .2) in
+    let s₂ = internal-observe (if l .1 .«saw_mixed_inputs» then l .1 .acc else ∅) (l .2) in
     not-again rec (single (l .1)) (l .1) s₂ ∙ along-scalar rec (look-spent (length (s .expr-arena))) x qs [] no-orders s g h m
   where
     not-again : (rec : Look) (b : Bool) (a : ExprOrderAcc) (t : Eos) → scalar-at (look-again rec (b && false) a t .1) x ≡ scalar-at t x

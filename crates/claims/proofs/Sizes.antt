@@ -13,7 +13,7 @@ use Rattle.plan.specs.Lists.{all?, numbered, concat-map}
 use Rattle.plan.specs.Sheet.{Step, Sheet, done, in-step-table, over-limits, expr-count}
 use Rattle.plan.specs.Faults.{named}
 use Rattle.plan.specs.Graph.{graph, sinks}
-use Rattle.plan.specs.Visit.{Run, simplify-ir-node-orders, unlink-node, settled}
+use Rattle.plan.specs.Visit.{Run, simplify-ir-node-orders, unlink-node, settled-by}
 use Rattle.plan.specs.Walks.{begin, down}
 use Rattle.plan.proofs.ListLaws.{and-left, and-right}
 use Rattle.claims.specs.WellFormed.{WellFormed}
@@ -66,7 +66,7 @@ module _ (sh : Sheet) (w : WellFormed sh) where
 -- The runs ------------------------------------------------------------------------------------------------------------------------------
 
 pub steps-kept : (n : ℕ) (r : Run) {r′ : Run} → simplify-ir-node-orders n r ≡ done r′ → length (r′ .steps) ≡ length (r .steps)
-unfolding unlink-node settled
+unfolding unlink-node settled-by
 steps-kept n r e =
     elim (two-ways n r e) [
       | inl w ↦ ap (λ (q : Run). length (q .steps)) (w .1) ∙ simp length-set

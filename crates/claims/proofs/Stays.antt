@@ -20,7 +20,8 @@ use Rattle.plan.specs.declared.rules.Options.{Options}
 use Rattle.plan.specs.declared.rules.Around.{Around}
 use Rattle.plan.specs.declared.rules.Observable.{Observable}
 use Rattle.plan.specs.declared.rules.Ruled.{Ruled}
-use Rattle.plan.specs.Visit.{Run, arm, rule, unordered-union, merge-sorted-all, simplify-ir-node-orders, goes, ruling, ruled-step, looked-in, looks-of, is-out-of, no-edge, out-edge}
+use Rattle.plan.specs.Visit.{Run, arm, rule, unordered-union, merge-sorted-all, simplify-ir-node-orders, goes, looked-in, looks-of, is-out-of, no-edge, out-edge, ruling-of}
+use Rattle.plan.proofs.Settling.{ruling, ruled-step}
 use Rattle.plan.proofs.ListLaws.{and-left}
 use Rattle.plan.proofs.KindNumbers.{same-kind}
 use Rattle.claims.proofs.Visits.{visited}
@@ -80,11 +81,11 @@ module _ (s : Options) (e : Around) (o : Observable) (functions : Functions) whe
   rule-holds-out i = ap (λ (k : IR). arm s e o functions k .loosened .out) i
 
 pub ruling-sort : (n : ℕ) (r : Run) → unsliced-sort (ruled-step n r) ≡ unsliced-sort (step-at (r .steps) n)
-unfolding ruling looked-in looks-of
+unfolding ruling-of looked-in looks-of
 ruling-sort n r = rule-sort _ _ (looked-in n r .observable) rust-functions _ refl
 
 pub sort-holds-out : (n : ℕ) (r : Run) → step-at (r .steps) n .kind ≡ IR.Sort → ruling n r .loosened .out ≡ false
-unfolding ruling looked-in looks-of
+unfolding ruling-of looked-in looks-of
 sort-holds-out n r i = rule-holds-out _ _ (looked-in n r .observable) rust-functions i
 
 -- another step at c, of which f reads what it read of the one before

@@ -11,11 +11,12 @@ use Rattle.plan.specs.Lists.{times}
 use Rattle.plan.specs.Sheet.{Step, Sheet, done, no-step, step-at, in-step-table}
 use Rattle.plan.specs.Faults.{named}
 use Rattle.plan.specs.Graph.{Edge, graph, sinks}
-use Rattle.plan.specs.Visit.{Run, simplify-ir-node-orders, unlink-node, settled, looked-in, looks-of, ruled-step, with-input, no-edge, out-edge}
+use Rattle.plan.specs.Visit.{Run, simplify-ir-node-orders, unlink-node, looked-in, looks-of, with-input, no-edge, out-edge, settled-by}
+use Rattle.plan.proofs.Settling.{ruled-step}
 use Rattle.plan.specs.Walks.{begin, down}
 use Rattle.claims.specs.WellFormed.{WellFormed}
-use Rattle.claims.specs.Visitable.{Visitable}
-use Rattle.claims.proofs.Walks.{two-ways, walk-keeps}
+use Rattle.claims.specs.Visitable.{Visitable, All-visitable}
+use Rattle.claims.proofs.Walks.{two-ways, walk-keeps, trace-keeps}
 use Rattle.plan.proofs.Booleans.{all-at}
 use Rattle.plan.proofs.Counts.{mem-at, mem-concat, only, times-of, stands-in}
 use Rattle.claims.proofs.Every.{Every, every-of, every-set}
@@ -49,7 +50,7 @@ readable-with-input slot input s k = record { input = λ t. simp length-set (k .
 
 module _ (n : ℕ) (r : Run) {r′ : Run} (e : simplify-ir-node-orders n r ≡ done r′) where
   readable-visit : Every Readable no-step (r .steps) → Every Readable no-step (r′ .steps)
-  unfolding unlink-node settled
+  unfolding unlink-node settled-by
   readable-visit k =
       let c = out-edge n (r .edges) .consumer in
       let Kept : Run → Type 0 = λ q. Every Readable no-step (q .steps) in
@@ -61,7 +62,7 @@ module _ (n : ℕ) (r : Run) {r′ : Run} (e : simplify-ir-node-orders n r ≡ d
   -- what is read of a step, if neither another input in a slot nor the rule changes it
   pub step-kept : {A : Type 0} (f : Step → A) → ((k v : ℕ) (s : Step) → f (with-input k v s) ≡ f s) → f (ruled-step n r) ≡ f (step-at (r .steps) n)
       → (m : ℕ) → f (step-at (r′ .steps) m) ≡ f (step-at (r .steps) m)
-  unfolding unlink-node settled
+  unfolding unlink-node settled-by
   step-kept f linked ruled m =
       let c = out-edge n (r .edges) .consumer in
       let Kept : Run → Type 0 = λ q. f (step-at (q .steps) m) ≡ f (step-at (r .steps) m) in
@@ -145,6 +146,10 @@ going-visitable most n ns r few k =
       input = λ t. k .readable n .input (goes-sort n r t .0);
     }
 
+pub all-visitable : (most : ℕ) (ns : List ℕ) (r : Run) → most ≤ 576 → Going most ns r → All-visitable ns r
+all-visitable most ns r few k n v m =
+    let (ms, g) = trace-keeps (Going most) (going-visit most) ns r k n v m in going-visitable most n ms v few g
+
 -- A well-formed sheet ------------------------------------------------------------------------------------------------------------
 
 -- a place is a root's or an input's
@@ -201,3 +206,10 @@ module _ (sh : Sheet) (wf : WellFormed sh) where
         readable = k .readable;
         slots = k .slots;
       }
+
+  -- at every visit of either walk
+  pub visitable-down : All-visitable (graph (sh .steps) .0) (begin sh)
+  visitable-down = all-visitable 288 (graph (sh .steps) .0) (begin sh) (omega arith) going-begin
+
+  pub visitable-up : (half : Run) → down sh ≡ done half → All-visitable (half .back) half
+  visitable-up half e = all-visitable 576 (half .back) half (omega arith) (going-half half e)

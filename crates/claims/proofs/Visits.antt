@@ -8,7 +8,8 @@ use lib.ListN.{length, length-append, length-map, length-reverse}
 use Rattle.plan.specs.Lists.{numbered}
 use Rattle.plan.specs.Sheet.{Step, Sheet, Outcome, done}
 use Rattle.plan.specs.Graph.{Edge, key, build-ir-traversal-graph, graph, grow, popped, following, edges-into, sinks, most-places}
-use Rattle.plan.specs.Visit.{Run, simplify-ir-node-orders, unlink-node, settled}
+use Rattle.plan.specs.Visit.{Run, simplify-ir-node-orders, unlink-node, settled-by}
+use Rattle.plan.proofs.Settling.{settled}
 use Rattle.plan.specs.Walks.{walk, trace, then-all, begin, down, up}
 use Rattle.plan.proofs.Outcomes.{both-done}
 use Rattle.claims.proofs.Walks.{two-ways}
@@ -25,7 +26,7 @@ unfolding unlink-node
 unlinked n r = record { visits = refl; back = omega arith; edges = simp length-map }
 
 settles : (n : ℕ) (r : Run) → Tallies 1 r (settled n r)
-unfolding settled
+unfolding settled-by
 settles n r = record { visits = omega (arith, visit-visits n r); back = omega arith; edges = simp length-map }
 
 pub visited : (n : ℕ) (r : Run) {r′ : Run} → simplify-ir-node-orders n r ≡ done r′ → Tallies 1 r r′

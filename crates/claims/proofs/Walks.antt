@@ -7,7 +7,8 @@ use mathlib.Core.List.{List, [], _∷_, List·Memᴰ, List·Memᴰ·not-nil, Lis
 use lib.Dec.{eqb}
 use Rattle.plan.specs.Lists.{if_then_else_}
 use Rattle.plan.specs.Sheet.{Outcome, refused, done, _then_}
-use Rattle.plan.specs.Visit.{Run, simplify-ir-node-orders, goes, unlink-node, settle, settled, refusal-in}
+use Rattle.plan.specs.Visit.{Run, simplify-ir-node-orders, goes, unlink-node, settle}
+use Rattle.plan.proofs.Settling.{settled, refusal-in}
 use Rattle.plan.specs.Walks.{walk, trace, then-all}
 use Rattle.plan.proofs.Outcomes.{came, both-done}
 

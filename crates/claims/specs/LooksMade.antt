@@ -5,11 +5,13 @@ use mathlib.Core.Bool.{Bool, true, false, _&&_}
 use mathlib.Core.List.{List, [], _∷_, _++_}
 use mathlib.Core.Option.{Option, none, some}
 use lib.ListN.{length, take, drop}
+use Rattle.plan.specs.declared.looks.Before.{Before}
+use Rattle.plan.specs.declared.orders.ExprOrderAcc.{ExprOrderAcc}
 use Rattle.plan.specs.declared.orders.ObservableOrders.{ObservableOrders}
 use Rattle.plan.specs.Lists.{if_then_else_}
 use Rattle.plan.specs.Sheet.{Expr, expr-at}
-use Rattle.plan.specs.Orders.{∅, ExprOrderAcc, no-orders, single}
-use Rattle.plan.specs.Look.{Eos, Look, Before, before, after, in-order, check-return-cached, is-replaced, replace-by-input, enter-struct, internal-observe, one-look, look, look-along, look-along-children, ALLOW-DEORDER, NO-DEORDER}
+use Rattle.plan.specs.Orders.{∅, no-orders, single}
+use Rattle.plan.specs.Look.{Eos, Look, before, after, in-order, check-return-cached, is-replaced, replace-by-input, enter-struct, internal-observe, one-look, look, look-along, look-along-children, ALLOW-DEORDER, NO-DEORDER}
 
 -- the looks made by a look at a record, in a mode and a state
 abbrev pub Made : Type 0
@@ -21,7 +23,7 @@ module _ (rec : Look) (made : Made) where
   made-along mode (q ∷ qs) s = made mode q s ++ made-along mode qs (rec mode q s .1)
 
   unfoldable pub made-again : Bool → ExprOrderAcc → Eos → List ℕ
-  made-again true x s = made ALLOW-DEORDER (x .last-ordered-node) s
+  made-again true x s = made ALLOW-DEORDER (x .«last_ordered_node») s
   made-again false x s = []
 
   unfoldable pub made-whole : Bool → Expr → Before → Eos → List ℕ
@@ -30,7 +32,7 @@ module _ (rec : Look) (made : Made) where
       let (os, x, s₁) = look-along rec (b .first) (take 1 qs) [] no-orders s in
       let (os′, x′, s₂) = look-along-children rec e b s in
       let v = after e allow (s .struct-field-ordering) os′ x′ (e .kind) in
-      made-along (b .first) (take 1 qs) s ++ made-along (b .others) (drop 1 qs) (enter-struct e os s₁)
+      made-along (b .first) (take 1 qs) s ++ made-along NO-DEORDER (drop 1 qs) (enter-struct e os s₁)
       ++ made-again (v .again) x′ s₂
 
   unfoldable pub made-at : Bool → ℕ → Expr → Before → Eos → Option ObservableOrders → Bool → List ℕ
@@ -55,4 +57,4 @@ made-in-list ae-nodes allow-deordering-top s =
     let (os, x, s₁) = look-along rec NO-DEORDER ae-nodes [] no-orders s in
     made-along rec (made (length (s .expr-arena))) NO-DEORDER ae-nodes s
     ++ made-again rec (made (length (s .expr-arena))) (single x && allow-deordering-top) x
-    (internal-observe (if x .saw-mixed-inputs then x .acc else ∅) s₁)
+    (internal-observe (if x .«saw_mixed_inputs» then x .acc else ∅) s₁)

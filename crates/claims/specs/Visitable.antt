@@ -1,10 +1,11 @@
 -- What the code of a visit leans on: of the step n, in the state r in which it is visited.
-use mathlib.Core.List.{List·Memᴰ}
+use mathlib.Core.List.{List, List·Memᴰ}
 use Prim.Native.Nat.{ℕ, _+_, _≤_, _<_, _^_}
 use lib.Dec.{T}
 use lib.ListN.{length, getD}
 use Rattle.plan.specs.Sheet.{step-at}
 use Rattle.plan.specs.Visit.{Run, no-edge, goes, looked-in}
+use Rattle.plan.specs.Walks.{trace}
 
 pub record Visitable (n : ℕ) (r : Run) : Type 0 where
   pub step : n < length (r .steps)
@@ -23,3 +24,7 @@ pub record Visitable (n : ℕ) (r : Run) : Type 0 where
       → getD (r .edges) k no-edge .slot < length (step-at (r .steps) (getD (r .edges) k no-edge .consumer) .inputs)
   -- a sort that goes has an input
   pub input : T (goes n r) → 1 ≤ length (step-at (r .steps) n .inputs)
+
+-- at each visit of a walk along ns that sets out from r
+abbrev pub All-visitable : List ℕ → Run → Type 0
+All-visitable ns r = (n : ℕ) (v : Run) → List·Memᴰ (n, v) (trace ns r) → Visitable n v

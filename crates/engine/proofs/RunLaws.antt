@@ -142,8 +142,9 @@ module _ (recs line : List ℕ) (off : List Bool) (m : ℕ) (steps : List ℕ) (
 
 -- What the walks' outcome makes of the call --------------------------------------------------------------------------------------
 
-pub held-run : (held : ℕ → Type 0) (r : Orderings) (f : Fetched) → r ≡ Orderings.Fetched f → Orderings-held held r → held (f .exprs)
-held-run held r f e h = subst (Orderings-held held) e h
+pub held-run : (held : ℕ → Type 0) (stop : Run) (after : ℕ → List ℕ → List ℕ → Tally → Run) (r : Orderings) (f : Fetched) → r ≡ Orderings.Fetched f
+    → Orderings-held held stop after r → held (f .exprs)
+held-run held stop after r f e h = subst (Orderings-held held stop after) e h
 
 -- the walks went over a sheet that is sh
 module _ (sent sh : Sheet) (same : sent ≡ sh) (entry : List ℕ) (after : ℕ → List ℕ → List ℕ → Tally → Run) (r : Orderings)

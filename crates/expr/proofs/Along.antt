@@ -10,15 +10,17 @@ use lib.ListN.{length, getD, drop, length-append, drop-of-length-le, List·getD-
 use lib.Seq.{drop-cons, getD-append-seam}
 use borrow.Author.Tests.{eqb-true, eqb-false, ne-eqb}
 use Rattle.plan.specs.declared.aexpr.AExpr.{AExpr}
+use Rattle.plan.specs.declared.looks.Before.{Before}
+use Rattle.plan.specs.declared.orders.ExprOrderAcc.{ExprOrderAcc}
 use Rattle.plan.specs.declared.orders.ObservableOrders.{ObservableOrders}
 use Rattle.plan.specs.Kinds.{same-aexpr}
 use Rattle.plan.specs.Lists.{if_then_else_, first-last}
 use Rattle.plan.specs.Sheet.{Expr}
-use Rattle.plan.specs.Orders.{ExprOrderAcc, no-orders, add}
-use Rattle.plan.specs.Look.{Eos, with-field, Before, in-order, After, after, enter-struct, Look, look-along, look-along-children, look-ended}
-use Rattle.expr.specs.declared.order_acc.Seen.{Seen}
+use Rattle.plan.specs.Orders.{no-orders, add}
+use Rattle.plan.specs.Look.{NO-DEORDER, Eos, with-field, in-order, After, after, enter-struct, Look, look-along, look-along-children, look-ended}
+use Rattle.expr.specs.declared.seen.Seen.{Seen}
 use Rattle.expr.specs.declared.record.ExprRecord.{ExprRecord}
-use Rattle.expr.specs.Acc.{Sees}
+use Rattle.expr.specs.Seen.{Sees}
 use Rattle.expr.specs.Tables.{answers}
 use Rattle.expr.specs.Record.{record-of, Shaped, slot, child-at}
 use Rattle.expr.specs.Contract.{along-from}
@@ -73,7 +75,7 @@ module _ (rec : Look) (e : Expr) (b : Before) where
   queue = in-order b (e .children)
 
   abbrev pub how : ℕ → Bool
-  how i = if eqb i 0 then b .first else b .others
+  how i = if eqb i 0 then b .first else NO-DEORDER
 
   abbrev pub entered : ℕ → ObservableOrders → Eos → Eos
   entered i o s = with-field (if eqb i 0 && same-aexpr (e .kind) AExpr.StructEval then o else s .struct-field-ordering) s
@@ -97,7 +99,7 @@ module _ (rec : Look) (e : Expr) (b : Before) where
   along-more (suc i) h os x s k z =
       let n : eqb (suc i) 0 ≡ false = ne-eqb (suc i) 0 (λ j. omega arith) in
       let j : suc i + 1 ≡ suc (suc i) = omega arith in
-      rw (n, j) (along-two (b .others) (getD queue (suc i) 0) (drop (suc (suc i)) queue) (drop (suc i) queue) os x s (drop-cons queue (suc i) 0 h))
+      rw (n, j) (along-two NO-DEORDER (getD queue (suc i) 0) (drop (suc (suc i)) queue) (drop (suc i) queue) os x s (drop-cons queue (suc i) 0 h))
 
   pub along-end : (i : ℕ) → length queue ≤ i + 1 → (os : List ObservableOrders) (x : ExprOrderAcc) (s : Eos) → along-from rec e b (i + 1) os x s ≡ (os, x, s)
   unfolding look-along

@@ -20,6 +20,7 @@ use Rattle.plan.specs.declared.tally.Tally.{Tally}
 use Rattle.expr.specs.State.{State, eos-of, Falls, Based}
 use Rattle.expr.specs.Projected.{Started, ListAsks}
 use Rattle.expr.specs.Start.{Own-lines, None-off}
+use Rattle.expr.specs.Read.{Read-exprs}
 use Rattle.expr.proofs.Starts.{arena-at-start}
 use Rattle.expr.proofs.Starts as starts
 
@@ -46,14 +47,6 @@ module _ (recs : List ℕ) (n : ℕ) (few : n ≤ 128) (room : n * 16 ≤ length
   based-of-sheet sh wf e = based-of-formed (subst claims.Formed (sym e) (formed-at-start sh wf))
 
 -- A list before anything is changed ----------------------------------------------------------------------------------------------
-
--- the n stored records are those of a well-formed sheet
-pub record Read-exprs (recs : List ℕ) (n : ℕ) : Type 0 where
-  pub few : n ≤ 128
-  pub each : (l : ℕ) → l < n → Expr-formed recs l
-  pub sheet : Sheet
-  pub well-formed : WellFormed sheet
-  pub same : stored-exprs recs n ≡ sheet .exprs
 
 module _ (recs : List ℕ) (n : ℕ) (k : Read-exprs recs n) (room : n * 16 ≤ length recs) (line : List ℕ) (off : List Bool) (tally : Tally) (s : State) (own : Own-lines line) (on : None-off off) (started : Started line off tally s) (start : tally .looks < 2 ^ 63) where
   size : length (k .sheet .exprs) ≡ n

@@ -8,20 +8,19 @@ use mathlib.Core.List.{List, [], _∷_, _++_}
 use lib.Dec.{eqb}
 use lib.ListN.{length, getD}
 use Rattle.plan.specs.declared.aexpr.AExpr.{AExpr}
+use Rattle.plan.specs.declared.looks.Before.{Before}
 use Rattle.plan.specs.declared.orders.ObservableOrders.{ObservableOrders}
 use Rattle.plan.specs.Kinds.{same-aexpr}
 use Rattle.plan.specs.Lists.{if_then_else_}
 use Rattle.plan.specs.Sheet.{Expr}
 use Rattle.plan.specs.Orders.{no-orders, add}
-use Rattle.plan.specs.Look.{in-order, look}
+use Rattle.plan.specs.Look.{NO-DEORDER, in-order, look}
 use Rattle.plan.specs.Look as plan
-use Rattle.expr.specs.declared.before.Before.{Before}
-use Rattle.expr.specs.declared.order_acc.Seen.{Seen}
+use Rattle.expr.specs.declared.seen.Seen.{Seen}
 use Rattle.expr.specs.declared.record.ExprRecord.{ExprRecord}
-use Rattle.expr.specs.Acc.{acc-of, Adds}
+use Rattle.expr.specs.Seen.{Adds}
 use Rattle.expr.specs.Record.{record-of, slot, child-at}
 use Rattle.expr.specs.State.{State, eos-of, Kept}
-use Rattle.expr.specs.Tables.{before-of}
 use Rattle.expr.specs.Contract.{Walked, looked-of, LookAsks, LookGives, along-from, Begun, AlongAsks, AlongGives}
 use Rattle.expr.proofs.Records.{children-length, children-at}
 use Rattle.expr.proofs.States.{kept-trans, formed-kept, fielded, kept-fielded, eos-fielded, eos-field, begun-next}
@@ -29,18 +28,18 @@ use Rattle.expr.proofs.Laws.{up-from, up-look}
 use Rattle.expr.proofs.Along.{length-in-order, slot-below, in-order-at, entered, along-more, along-end}
 
 module _ (recs : List ℕ) (n : ℕ) (s : State) (e : ExprRecord) (b : Before) (l : ℕ) (x : Seen) (i : ℕ) (r : AlongAsks recs n s e b l x i)
-    (c : ℕ) (m : Bool) (c-is : c ≡ child-at e (b .turned) i) (m-is : m ≡ (if eqb i 0 then b .first else b .others)) where
+    (c : ℕ) (m : Bool) (c-is : c ≡ child-at e (b .turned) i) (m-is : m ≡ (if eqb i 0 then b .first else NO-DEORDER)) where
   abbrev S : plan.Eos
   S = eos-of recs n s
 
   abbrev E : Expr
   E = record-of e
 
-  queue-length : length (in-order (before-of b) (E .children)) ≡ e .count
-  queue-length = length-in-order (before-of b) (E .children) ∙ children-length e (r .shaped)
+  queue-length : length (in-order b (E .children)) ≡ e .count
+  queue-length = length-in-order b (E .children) ∙ children-length e (r .shaped)
 
-  c-at : getD (in-order (before-of b) (E .children)) i 0 ≡ c
-  c-at = in-order-at e (r .shaped) i (r .more) (before-of b) ∙ sym c-is
+  c-at : getD (in-order b (E .children)) i 0 ≡ c
+  c-at = in-order-at e (r .shaped) i (r .more) b ∙ sym c-is
 
   c-falls : c < l
   c-falls =
@@ -56,13 +55,13 @@ module _ (recs : List ℕ) (n : ℕ) (s : State) (e : ExprRecord) (b : Before) (
     abbrev R : ObservableOrders × plan.Eos
     R = look f m c S
 
-    at-start : i ≡ 0 → acc-of (x .acc) ≡ no-orders
+    at-start : i ≡ 0 → x .acc ≡ no-orders
     at-start h = rw (begun .start h)
 
-    step : along-from (look f) E (before-of b) i os (acc-of (x .acc)) S
-        ≡ along-from (look f) E (before-of b) (i + 1) (os ++ (R .0 ∷ [])) (add (acc-of (x .acc)) (R .0) c) (entered (look f) E (before-of b) i (R .0) (R .1))
+    step : along-from (look f) E b i os (x .acc) S
+        ≡ along-from (look f) E b (i + 1) (os ++ (R .0 ∷ [])) (add (x .acc) (R .0) c) (entered (look f) E b i (R .0) (R .1))
     step =
-        along-more (look f) E (before-of b) i (rw queue-length (r .more)) os (acc-of (x .acc)) S (begun .length-is) at-start
+        along-more (look f) E b i (rw queue-length (r .more)) os (x .acc) S (begun .length-is) at-start
         ∙ rw (c-at, ← m-is)
 
   pub child-asks : LookAsks recs n s c m
@@ -74,7 +73,7 @@ module _ (recs : List ℕ) (n : ℕ) (s : State) (e : ExprRecord) (b : Before) (
         fuel = r .fuel;
         enough = lt-of-lt-of-le child-falls (r .enough);
         fits = let R = look (r .fuel) m c S in lt-of-le-of-lt
-            (up-from (look (r .fuel)) (up-look (r .fuel)) E (before-of b) (i + 1) (r .os ++ (R .0 ∷ [])) (add (acc-of (x .acc)) (R .0) c) (entered (look (r .fuel)) E (before-of b) i (R .0) (R .1)))
+            (up-from (look (r .fuel)) (up-look (r .fuel)) E b (i + 1) (r .os ++ (R .0 ∷ [])) (add (x .acc) (R .0) c) (entered (look (r .fuel)) E b i (R .0) (R .1)))
             (rw (step (r .fuel) (r .os) (r .begun)) at (r .fits));
       }
 
@@ -98,12 +97,12 @@ module _ (recs : List ℕ) (n : ℕ) (s : State) (e : ExprRecord) (b : Before) (
     t-is : (f : ℕ) → l ≤ f → look f m c S ≡ looked-of recs n t
     t-is f h = sym (g .is f (lt-of-lt-of-le child-falls h))
 
-    state-is : (f : ℕ) → entered (look f) E (before-of b) i (t .answer) (eos-of recs n t) ≡ eos-of recs n t₁
+    state-is : (f : ℕ) → entered (look f) E b i (t .answer) (eos-of recs n t) ≡ eos-of recs n t₁
     state-is f = rw (eos-fielded recs n t field, field-is, eos-field recs n t)
 
     step-is : (f : ℕ) → l ≤ f → (os : List ObservableOrders) → Begun l i os x
-        → along-from (look f) E (before-of b) i os (acc-of (x .acc)) S
-        ≡ along-from (look f) E (before-of b) (i + 1) (os₁ os) (acc-of (next .acc)) (eos-of recs n t₁)
+        → along-from (look f) E b i os (x .acc) S
+        ≡ along-from (look f) E b (i + 1) (os₁ os) (next .acc) (eos-of recs n t₁)
     step-is f h os begun = step f os begun ∙ rw (t-is f h, state-is f, ← adds .acc)
 
     -- there is a child more
@@ -136,7 +135,7 @@ module _ (recs : List ℕ) (n : ℕ) (s : State) (e : ExprRecord) (b : Before) (
     pub gives-last : i + 1 ≡ e .count → AlongGives recs n s e b l x i (record { state = t₁; seen = next })
     gives-last last =
         record {
-          is = λ f h os begun. rw (step-is f h os begun, along-end (look f) E (before-of b) i (rw queue-length (omega (arith, last))) (os₁ os) (acc-of (next .acc)) (eos-of recs n t₁))
+          is = λ f h os begun. rw (step-is f h os begun, along-end (look f) E b i (rw queue-length (omega (arith, last))) (os₁ os) (next .acc) (eos-of recs n t₁))
               (record { sees = begun₁ os begun .sees; acc = refl; state = refl });
           kept = t₁-kept;
           near = begun₁ (r .os) (r .begun) .near;

@@ -1,4 +1,4 @@
-pub mod Accs
+pub mod Answers
 pub mod Records
 pub mod View
 pub mod Laws

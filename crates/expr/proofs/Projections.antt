@@ -8,20 +8,20 @@ use mathlib.Core.List.{List, [], _∷_}
 use mathlib.Core.Option.{none}
 use lib.ListN.{length, getD, take, drop, replicate, length-replicate}
 use borrow.Author.Tests.{eqb-true}
+use Rattle.plan.specs.declared.looks.Before.{Before}
+use Rattle.plan.specs.declared.orders.ExprOrderAcc.{ExprOrderAcc}
 use Rattle.plan.specs.declared.orders.ObservableOrders.{ObservableOrders}
 use Rattle.plan.specs.Lists.{if_then_else_}
-use Rattle.plan.specs.Orders.{∅, _∪_, no-orders, ExprOrderAcc, single}
-use Rattle.plan.specs.Look.{internal-observe, Look, look-along, look-again, look-along-children, look, simplify-projected-exprs}
+use Rattle.plan.specs.Orders.{∅, _∪_, no-orders, single}
+use Rattle.plan.specs.Look.{NO-DEORDER, row, internal-observe, Look, look-along, look-again, look-along-children, look, simplify-projected-exprs}
 use Rattle.plan.specs.Look as plan
 use Rattle.storage.specs.Stored.{arena-of}
 use Rattle.plan.specs.Visit.{expr-order-simplifier}
-use Rattle.expr.specs.declared.before.Before.{Before}
 use Rattle.plan.specs.declared.tally.Tally.{Tally}
-use Rattle.expr.specs.Acc.{acc-of, none-seen}
+use Rattle.expr.specs.Seen.{none-seen}
 use Rattle.expr.specs.Cache.{cache-of}
 use Rattle.expr.specs.Record.{record-of}
 use Rattle.expr.specs.State.{State, eos-of, Formed, Kept}
-use Rattle.expr.specs.Tables.{row-of, before-of}
 use Rattle.expr.specs.Contract.{Walked, looked-of, LookAsks, LookGives, Answers, along-from, AlongAsks, IsWalk, AlongGives}
 use Rattle.expr.specs.Projected.{Started, list-record, ListAsks, ListGives}
 use Rattle.storage.proofs.Laws.{length-arena}
@@ -44,7 +44,7 @@ opened recs n line off tally = rw no-entries
 
 pub started : (line : List ℕ) (off : List Bool) (tally : Tally)
     → Started line off tally (record { line = line; off = off; cache = replicate 128 0; field = ∅; observed = ∅; tally = tally; answer = ∅ })
-started line off tally = record { is = start-is; line-is = refl; off-is = refl; tally-is = refl; cache-size = length-replicate {A = ℕ} 128 0 }
+started line off tally = record { is = start-is; line-is = refl; off-is = refl; tally-is = refl; answer-is = refl; cache-size = length-replicate {A = ℕ} 128 0 }
   where
     start-is : (recs : List ℕ) (n : ℕ)
         → eos-of recs n (record { line = line; off = off; cache = replicate 128 0; field = ∅; observed = ∅; tally = tally; answer = ∅ })
@@ -55,7 +55,7 @@ started line off tally = record { is = start-is; line-is = refl; off-is = refl; 
 
 abbrev ended-list : Look → Bool → Answers → ObservableOrders × plan.Eos
 ended-list rec allow d =
-    look-again rec (single (d .1) && allow) (d .1) (internal-observe (if d .1 .saw-mixed-inputs then d .1 .acc else ∅) (d .2))
+    look-again rec (single (d .1) && allow) (d .1) (internal-observe (if d .1 .«saw_mixed_inputs» then d .1 .acc else ∅) (d .2))
 
 in-two : (rec : Look) (cs : List ℕ) (s : plan.Eos)
     → look-along rec false (drop 1 cs) (look-along rec false (take 1 cs) [] no-orders s .0) (look-along rec false (take 1 cs) [] no-orders s .1) (look-along rec false (take 1 cs) [] no-orders s .2)
@@ -65,11 +65,11 @@ in-two rec [] s = refl
 in-two rec (c ∷ cs) s = refl
 
 abbrev pub no-row : Before
-no-row = row-of false false false false
+no-row = row false false NO-DEORDER
 
 -- the children of the made-up record
 as-children : (rec : Look) (nodes : List ℕ) (count : ℕ) (s : plan.Eos)
-    → along-from rec (record-of (list-record nodes count)) (before-of no-row) 0 [] no-orders s ≡ look-along rec false (take count nodes) [] no-orders s
+    → along-from rec (record-of (list-record nodes count)) no-row 0 [] no-orders s ≡ look-along rec false (take count nodes) [] no-orders s
 unfolding look-along-children
 as-children rec nodes count s = in-two rec (take count nodes) s
 
@@ -84,8 +84,8 @@ up-ended : (rec : Look) → ((m : Bool) (q : ℕ) (s : plan.Eos) → s .tally .l
 unfolding look-again
 up-ended rec up allow d = go (single (d .1) && allow)
   where
-    go : (b : Bool) → d .2 .tally .looks ≤ look-again rec b (d .1) (internal-observe (if d .1 .saw-mixed-inputs then d .1 .acc else ∅) (d .2)) .1 .tally .looks
-    go true = up true (d .1 .last-ordered-node) (internal-observe (if d .1 .saw-mixed-inputs then d .1 .acc else ∅) (d .2))
+    go : (b : Bool) → d .2 .tally .looks ≤ look-again rec b (d .1) (internal-observe (if d .1 .«saw_mixed_inputs» then d .1 .acc else ∅) (d .2)) .1 .tally .looks
+    go true = up true (d .1 .«last_ordered_node») (internal-observe (if d .1 .«saw_mixed_inputs» then d .1 .acc else ∅) (d .2))
     go false = le-refl _
 
 again-not : (rec : Look) (x : ExprOrderAcc) (s : plan.Eos) → look-again rec false x s ≡ (x .acc, s)
@@ -122,7 +122,7 @@ module _ (recs : List ℕ) (n : ℕ) (s : State) (nodes : List ℕ) (count : ℕ
   S = eos-of recs n s
 
   abbrev D : Answers
-  D = along-from (look n) (record-of (list-record nodes count)) (before-of no-row) 0 [] no-orders S
+  D = along-from (look n) (record-of (list-record nodes count)) no-row 0 [] no-orders S
 
   list-is : simplify-projected-exprs (take count nodes) allow S ≡ ended-list (look n) allow D
   unfolding simplify-projected-exprs
@@ -164,14 +164,14 @@ module _ (recs : List ℕ) (n : ℕ) (s : State) (nodes : List ℕ) (count : ℕ
       walk-is : IsWalk recs n w D
       walk-is = g .is n (le-refl _) [] begun-none
 
-      t₁-is : internal-observe (if D .1 .saw-mixed-inputs then D .1 .acc else ∅) (D .2) ≡ eos-of recs n t₁
+      t₁-is : internal-observe (if D .1 .«saw_mixed_inputs» then D .1 .acc else ∅) (D .2) ≡ eos-of recs n t₁
       t₁-is = rw (walk-is .acc, walk-is .state, observed-is, mixed-is) (sym (eos-observing recs n (w .state) _))
 
       t₁-kept : Kept s t₁
       t₁-kept = kept-trans (g .kept) (kept-observing observed (w .state))
 
       abbrev x : ExprOrderAcc
-      x = acc-of (w .seen .acc)
+      x = w .seen .acc
 
       ended-is : simplify-projected-exprs (take count nodes) allow S ≡ look-again (look n) (single x && allow) x (eos-of recs n t₁)
       ended-is = list-is ∙ rw (t₁-is, walk-is .acc)

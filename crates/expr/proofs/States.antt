@@ -10,6 +10,7 @@ use lib.ListN.{length, getD, set, length-set, length-append}
 use lib.Seq.{getD-set-same, getD-set-other}
 use borrow.Author.Tests.{eqb-true, eqb-false}
 use Rattle.plan.specs.declared.aexpr.AExpr.{AExpr}
+use Rattle.plan.specs.declared.orders.ExprOrderAcc.{ExprOrderAcc}
 use Rattle.plan.specs.declared.orders.ObservableOrders.{ObservableOrders}
 use Rattle.plan.specs.Kinds.{same-aexpr}
 use Rattle.plan.specs.Lists.{if_then_else_, yes?}
@@ -18,15 +19,15 @@ use Rattle.plan.specs.Orders.{∅, _∪_, is-empty, add}
 use Rattle.plan.specs.Look.{one-look, with-arena, with-field, look-ended}
 use Rattle.expr.specs.declared.after.After.{After}
 use Rattle.expr.specs.declared.look.Eos.{Eos}
-use Rattle.expr.specs.declared.order_acc.Seen.{Seen}
+use Rattle.expr.specs.declared.seen.Seen.{Seen}
 use Rattle.expr.specs.declared.record.ExprRecord.{ExprRecord}
-use Rattle.expr.specs.Acc.{Adds}
+use Rattle.expr.specs.Seen.{Adds}
 use Rattle.expr.specs.Cache.{packed, cache-of}
 use Rattle.expr.specs.Record.{record-of, held}
 use Rattle.expr.specs.State.{State, eos-of, Formed, Kept}
 use Rattle.expr.specs.Tables.{after-of}
 use Rattle.expr.specs.Contract.{looked-of, Ended, Begun}
-use Rattle.expr.proofs.Accs.{sees-next}
+use Rattle.expr.proofs.Answers.{sees-next}
 use Rattle.expr.proofs.View.{arena-at, arena-copied, arena-off, cache-written}
 
 -- What is kept -------------------------------------------------------------------------------------------------------------------
@@ -190,11 +191,11 @@ module _ (s : State) (p : ℕ) (e : ExprRecord) (v : After) (o field first : Obs
 module _ (l i : ℕ) (os : List ObservableOrders) (x r : Seen) (o : ObservableOrders) (q : ℕ) (b : Begun l i os x) (a : Adds x o q i r) (below : q < l) where
   num-is : r .acc .«num_ordered_inputs» ≡ (if is-empty o then x .acc .«num_ordered_inputs» else x .acc .«num_ordered_inputs» + 1)
   unfolding add
-  num-is = ap (λ (y : Rattle.plan.specs.Orders.ExprOrderAcc). y .num-ordered-inputs) (a .acc)
+  num-is = ap (λ (y : ExprOrderAcc). y .«num_ordered_inputs») (a .acc)
 
   last-is : r .acc .«last_ordered_node» ≡ (if is-empty o then x .acc .«last_ordered_node» else q)
   unfolding add
-  last-is = ap (λ (y : Rattle.plan.specs.Orders.ExprOrderAcc). y .last-ordered-node) (a .acc)
+  last-is = ap (λ (y : ExprOrderAcc). y .«last_ordered_node») (a .acc)
 
   most-next : (t : Bool) → is-empty o ≡ t → r .acc .«num_ordered_inputs» ≤ i + 1
   most-next true h = rw (num-is, h) (omega (arith, b .most))

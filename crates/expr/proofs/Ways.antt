@@ -11,26 +11,27 @@ use lib.ListN.{length, getD}
 use lib.Seq.{getD-set-same}
 use borrow.Author.Tests.{eqb-true}
 use Rattle.plan.specs.declared.aexpr.AExpr.{AExpr}
+use Rattle.plan.specs.declared.looks.Before.{Before}
+use Rattle.plan.specs.declared.orders.ExprOrderAcc.{ExprOrderAcc}
 use Rattle.plan.specs.declared.orders.ObservableOrders.{ObservableOrders}
 use Rattle.plan.specs.Kinds.{same-aexpr}
 use Rattle.plan.specs.Lists.{if_then_else_, all?}
 use Rattle.plan.specs.Sheet.{Expr, expr-at}
-use Rattle.plan.specs.Orders.{∅, no-orders, ExprOrderAcc, single}
+use Rattle.plan.specs.Orders.{∅, no-orders, single}
 use Rattle.plan.specs.Look.{one-look, before, check-return-cached, is-replaced, replace-by-input, after, enter-struct, look-ended, look}
 use Rattle.plan.specs.Look as plan
 use Rattle.storage.specs.Stored.{stored-expr, Expr-formed}
 use Rattle.expr.specs.declared.after.After.{After}
-use Rattle.expr.specs.declared.before.Before.{Before}
 use Rattle.expr.specs.declared.record.ExprRecord.{ExprRecord}
-use Rattle.expr.specs.Acc.{acc-of, none-seen}
+use Rattle.expr.specs.Seen.{none-seen}
 use Rattle.expr.specs.Cache.{unpacked, cache-of}
 use Rattle.expr.specs.Record.{record-of, held, IsHeld}
 use Rattle.expr.specs.State.{State, eos-of, Falls, Based, Formed, Kept, Readable, sorts, preserves, is-replaced-line}
-use Rattle.expr.specs.Tables.{before-of, after-of, answers}
-use Rattle.expr.specs.Contract.{Walked, looked-of, LookAsks, LookGives, ended-by, Ended, AgainAsks, AgainGives, Answers, along-from, Begun, AlongAsks, IsWalk, AlongGives}
+use Rattle.expr.specs.Tables.{after-of, answers}
+use Rattle.expr.specs.Contract.{Walked, looked-of, LookAsks, LookGives, Ended, Answers, along-from, Begun, AlongAsks, IsWalk, AlongGives}
 use Rattle.expr.proofs.Records.{no, stored}
 use Rattle.expr.proofs.States.{kept-trans, formed-kept, counted, answering, copied, kept-counted, kept-answering, kept-copied, eos-cache, eos-field, eos-looks, eos-counted, eos-answering, eos-at, eos-copied}
-use Rattle.expr.proofs.Laws.{finish, after-answers, finish-again, finish-done, look-hit, look-copied, look-rest, up-finish, up-look, up-count}
+use Rattle.expr.proofs.Laws.{finish, ended-by, after-answers, finish-again, finish-done, look-hit, look-copied, look-rest, up-finish, up-look, up-count}
 use Rattle.expr.proofs.Along.{along-none, ended-entered, after-none, after-seen}
 
 -- Of Bools and lists -------------------------------------------------------------------------------------------------------------
@@ -56,17 +57,17 @@ again-single e allow field os x AExpr.Literal h = absurd (no h)
 again-single e allow field os x AExpr.Element h = absurd (no h)
 again-single e allow field os x AExpr.StructField h = absurd (no h)
 again-single e allow field os x AExpr.Len h = absurd (no h)
-again-single e allow field os x AExpr.BinaryExpr h = and-right (not (x .saw-mixed-inputs)) (single x) (and-left (not (x .saw-mixed-inputs) && single x) _ h)
-again-single e allow field os x AExpr.Ternary h = and-right (not (x .saw-mixed-inputs)) (single x) (and-left (not (x .saw-mixed-inputs) && single x) _ h)
+again-single e allow field os x AExpr.BinaryExpr h = and-right (not (x .«saw_mixed_inputs»)) (single x) (and-left (not (x .«saw_mixed_inputs») && single x) _ h)
+again-single e allow field os x AExpr.Ternary h = and-right (not (x .«saw_mixed_inputs»)) (single x) (and-left (not (x .«saw_mixed_inputs») && single x) _ h)
 again-single e allow field os x AExpr.Cast h = absurd (no h)
 again-single e allow field os x AExpr.Explode h = absurd (no h)
 again-single e allow field os x AExpr.Sort h = absurd (no h)
 again-single e allow field os x AExpr.SortBy h = absurd (no h)
-again-single e allow field os x AExpr.Filter h = and-right (not (x .saw-mixed-inputs)) (single x) (and-left (not (x .saw-mixed-inputs) && single x) _ h)
+again-single e allow field os x AExpr.Filter h = and-right (not (x .«saw_mixed_inputs»)) (single x) (and-left (not (x .«saw_mixed_inputs») && single x) _ h)
 again-single e allow field os x AExpr.Gather h = absurd (no h)
 again-single e allow field os x AExpr.Slice h = absurd (no h)
 again-single e allow field os x AExpr.Eval h = absurd (no h)
-again-single e allow field os x AExpr.StructEval h = and-right (not (x .saw-mixed-inputs)) (single x) (and-left (not (x .saw-mixed-inputs) && single x) _ h)
+again-single e allow field os x AExpr.StructEval h = and-right (not (x .«saw_mixed_inputs»)) (single x) (and-left (not (x .«saw_mixed_inputs») && single x) _ h)
 again-single e allow field os x AExpr.Over h = absurd (no h)
 again-single e allow field os x AExpr.Rolling h = absurd (no h)
 again-single e allow field os x AExpr.MinBy h = absurd (no h)
@@ -174,7 +175,7 @@ module _ (recs : List ℕ) (n : ℕ) (s : State) (p : ℕ) (allow : Bool) (r : L
       (λ k h. preserves-is recs n s (getD (E .children) k 0) (r .based) (r .formed) (omega (arith, e-falls .child k h, l-below)))
       )
 
-  module _ (b : Before) (b-is : before-of b ≡ before E allow (e .kind)) where
+  module _ (b : Before) (b-is : b ≡ before E allow (e .kind)) where
     abbrev entry : ℕ
     entry = getD (s .cache) p 0
 
@@ -289,7 +290,7 @@ module _ (recs : List ℕ) (n : ℕ) (s : State) (p : ℕ) (allow : Bool) (r : L
         stays = sym x-is ∙ left
 
         abbrev D : ℕ → Answers
-        D f = along-from (look f) E (before-of b) 0 [] no-orders (eos-of recs n (counted s))
+        D f = along-from (look f) E b 0 [] no-orders (eos-of recs n (counted s))
 
         rest-is : (f : ℕ) → look (suc f) allow p S ≡ finish (look f) p E (s .field) (D f) (after-answers allow E (s .field) (D f))
         rest-is f =
@@ -297,15 +298,14 @@ module _ (recs : List ℕ) (n : ℕ) (s : State) (p : ℕ) (allow : Bool) (r : L
             ∙ rw (b-is, eos-counted recs n s, eos-field recs n s)
 
         -- no children
-        module _ (none-there : e .count ≡ 0) (v : After) (o : ObservableOrders) (u : State)
+        module _ (none-there : e .count ≡ 0) (v : After) (u : State)
             (v-is : after-of v ≡ after E allow (s .field) (answers none-seen) no-orders (e .kind))
-            (o-is : o ≡ after-of v .answer ∅)
-            (u-is : Ended (counted s) p E (after-of v) o (s .field) ∅ u) where
+            (u-is : Ended (counted s) p E (after-of v) (v .answer) (s .field) ∅ u) where
           empty : E .children ≡ []
           empty = rw none-there
 
           D-is : (f : ℕ) → D f ≡ ([], no-orders, enter-struct E [] (eos-of recs n (counted s)))
-          D-is f = along-none (look f) E (before-of b) (eos-of recs n (counted s)) empty
+          D-is f = along-none (look f) E b (eos-of recs n (counted s)) empty
 
           V-is : after E allow (s .field) [] no-orders (e .kind) ≡ after-of v
           V-is = after-seen E allow (s .field) [] none-seen no-orders (record { first = refl; second = refl; third = refl }) (e .kind) ∙ sym v-is
@@ -320,7 +320,7 @@ module _ (recs : List ℕ) (n : ℕ) (s : State) (p : ℕ) (allow : Bool) (r : L
               ∙ sym (rest-is f
               ∙ rw (D-is f, V-is)
               (finish-done (look f) p E (s .field) ([], no-orders, enter-struct E [] (eos-of recs n (counted s))) (after-of v) (ap (λ (x : plan.After). x .again) (sym V-is) ∙ after-none E allow (s .field) (e .kind))
-              ∙ rw o-is (ap (λ (z : plan.Eos). (after-of v .answer ∅, z)) (ended-entered p E (after-of v) (after-of v .answer ∅) (s .field) entered-field [] (eos-of recs n (counted s))))))
+              ∙ ap (λ (z : plan.Eos). (v .answer, z)) (ended-entered p E (after-of v) (v .answer) (s .field) entered-field [] (eos-of recs n (counted s)))))
 
           pub gives-leaf : LookGives recs n s p allow u
           gives-leaf = record { is = leaf-is; kept = kept-trans (kept-counted s) (u-is .kept) }
@@ -347,7 +347,7 @@ module _ (recs : List ℕ) (n : ℕ) (s : State) (p : ℕ) (allow : Bool) (r : L
                 }
 
         module _ (w : Walked) (g : AlongGives recs n (counted s) e b l none-seen 0 w) (v : After)
-            (v-is : after-of v ≡ after E allow (s .field) (answers (w .seen)) (acc-of (w .seen .acc)) (e .kind)) where
+            (v-is : after-of v ≡ after E allow (s .field) (answers (w .seen)) (w .seen .acc) (e .kind)) where
           walk-is : (f : ℕ) → l ≤ f → IsWalk recs n w (D f)
           walk-is f h = g .is f h [] begun-none
 
@@ -367,9 +367,9 @@ module _ (recs : List ℕ) (n : ℕ) (s : State) (p : ℕ) (allow : Bool) (r : L
             abbrev node : ℕ
             node = w .seen .acc .«last_ordered_node»
 
-            one-ordered : single (acc-of (w .seen .acc)) ≡ true
+            one-ordered : single (w .seen .acc) ≡ true
             one-ordered =
-                again-single E allow (s .field) (answers (w .seen)) (acc-of (w .seen .acc)) (e .kind)
+                again-single E allow (s .field) (answers (w .seen)) (w .seen .acc) (e .kind)
                 (ap (λ (x : plan.After). x .again) (sym v-is) ∙ twice)
 
             node-near : node < l
@@ -381,20 +381,19 @@ module _ (recs : List ℕ) (n : ℕ) (s : State) (p : ℕ) (allow : Bool) (r : L
             pub again-falls : getD (w .state .line) node 0 < l
             again-falls = lt-of-le-of-lt (again-formed .below node (omega (arith, node-near, l-below))) node-near
 
-            second : (f : ℕ) → l ≤ f → look f true (D f .1 .last-ordered-node) (D f .2) ≡ look f true node (eos-of recs n (w .state))
+            second : (f : ℕ) → l ≤ f → look f true (D f .1 .«last_ordered_node») (D f .2) ≡ look f true node (eos-of recs n (w .state))
             second f h = rw (walk-is f h .acc, walk-is f h .state)
 
             look-twice : (f : ℕ) → l ≤ f
-                → look (suc f) allow p S
-                ≡ (after-of v .answer (look f true node (eos-of recs n (w .state)) .0), look-ended p E (after-of v) (after-of v .answer (look f true node (eos-of recs n (w .state)) .0)) (s .field) (D f .0) (look f true node (eos-of recs n (w .state)) .1))
+                → look (suc f) allow p S ≡ ended-by (look f true node (eos-of recs n (w .state))) p E (after-of v) (s .field) (D f .0)
             look-twice f h = look-walk f h ∙ finish-again (look f) p E (s .field) (D f) (after-of v) twice ∙ rw (second f h)
 
             ended-looks : (f : ℕ) → l ≤ f → look (suc f) allow p S .1 .tally .looks ≡ look f true node (eos-of recs n (w .state)) .1 .tally .looks
             unfolding look-ended
             ended-looks f h = ap (λ (x : ObservableOrders × plan.Eos). x .1 .tally .looks) (look-twice f h)
 
-            again-look : LookAsks recs n (w .state) node true
-            again-look = go (r .fuel) (r .enough) (r .fits)
+            pub again-asks : LookAsks recs n (w .state) node true
+            again-asks = go (r .fuel) (r .enough) (r .fits)
               where
                 go : (f : ℕ) → l < f → look f allow p S .1 .tally .looks < 2 ^ 64 → LookAsks recs n (w .state) node true
                 go zero h k = absurd (omega arith)
@@ -408,37 +407,28 @@ module _ (recs : List ℕ) (n : ℕ) (s : State) (p : ℕ) (allow : Bool) (r : L
                       fits = rw (ended-looks f (omega (arith, h))) at k;
                     }
 
-            pub again-asks : AgainAsks recs n (w .state) node p
-            again-asks = record { look = again-look; within = r .within }
+            -- u is the state after it, t at the end of the look at p
+            module _ (u : State) (g₂ : LookGives recs n (w .state) node true u) (o : ObservableOrders) (o-is : o ≡ after-of v .answer-again (u .answer))
+                (t : State) (t-is : Ended u p E (after-of v) o (s .field) (w .seen .first) t) where
+              again-is : (f : ℕ) → l < f → looked-of recs n t ≡ look f allow p S
+              again-is zero h = absurd (omega arith)
+              again-is (suc f) h =
+                  let k : l ≤ f = omega (arith, h) in
+                  t-is .is recs n (D f .0) (r .within) (walk-is f k .sees .first)
+                  ∙ rw o-is (ap (λ (x : ObservableOrders × plan.Eos). ended-by x p E (after-of v) (s .field) (D f .0)) (g₂ .is f (omega (arith, again-falls, k))))
+                  ∙ sym (look-twice f k)
 
-            pub gives-again : (t : State) → AgainGives recs n (w .state) node p E (after-of v) (s .field) (w .seen .first) t → LookGives recs n s p allow t
-            gives-again t m = record { is = again-is; kept = kept-trans walk-kept (m .kept) }
-              where
-                again-is : (f : ℕ) → l < f → looked-of recs n t ≡ look f allow p S
-                again-is zero h = absurd (omega arith)
-                again-is (suc f) h =
-                    let k : l ≤ f = omega (arith, h) in
-                    m .is f (omega (arith, again-falls, k)) (D f .0) (walk-is f k .sees .first) ∙ sym (look-twice f k)
+              pub gives-again : LookGives recs n s p allow t
+              gives-again = record { is = again-is; kept = kept-trans walk-kept (kept-trans (g₂ .kept) (t-is .kept)) }
 
           -- no second look
-          module _ (once : v .again ≡ false) (t : State) (o : ObservableOrders) (o-is : o ≡ after-of v .answer (w .seen .acc .acc))
-              (t-is : Ended (w .state) p E (after-of v) o (s .field) (w .seen .first) t) where
+          module _ (once : v .again ≡ false) (t : State) (t-is : Ended (w .state) p E (after-of v) (v .answer) (s .field) (w .seen .first) t) where
             done-is : (f : ℕ) → l < f → looked-of recs n t ≡ look f allow p S
             done-is zero h = absurd (omega arith)
             done-is (suc f) h =
                 let k : l ≤ f = omega (arith, h) in
                 t-is .is recs n (D f .0) (r .within) (walk-is f k .sees .first)
-                ∙ sym (look-walk f k ∙ finish-done (look f) p E (s .field) (D f) (after-of v) once ∙ rw (walk-is f k .acc, walk-is f k .state, o-is))
+                ∙ sym (look-walk f k ∙ finish-done (look f) p E (s .field) (D f) (after-of v) once ∙ rw (walk-is f k .state))
 
             pub gives-done : LookGives recs n s p allow t
             gives-done = record { is = done-is; kept = kept-trans walk-kept (t-is .kept) }
-
--- The second look, and the end of the look at p ----------------------------------------------------------------------------------
-
-pub gives-twice : (recs : List ℕ) (n : ℕ) (s : State) (node p : ℕ) → AgainAsks recs n s node p → (e : Expr) (v : plan.After) (field first : ObservableOrders) (u t : State) (o : ObservableOrders)
-    → LookGives recs n s node true u → o ≡ v .answer (u .answer) → Ended u p e v o field first t → AgainGives recs n s node p e v field first t
-gives-twice recs n s node p r e v field first u t o m o-is t-is =
-    record {
-      is = λ f h os q. t-is .is recs n os (r .within) q ∙ rw o-is (ap (λ (x : ObservableOrders × plan.Eos). ended-by x p e v field os) (m .is f h));
-      kept = kept-trans (m .kept) (t-is .kept);
-    }

@@ -1,5 +1,5 @@
 pub mod Cache
-pub mod Acc
+pub mod Seen
 pub mod Record
 pub mod Tables
 pub mod State
@@ -7,3 +7,4 @@ pub mod StateLaws
 pub mod Contract
 pub mod Projected
 pub mod Start
+pub mod Read

@@ -5,6 +5,7 @@ use mathlib.Core.Bool.{Bool, false}
 use mathlib.Core.List.{List}
 use lib.ListN.{length, take}
 use Rattle.plan.specs.declared.aexpr.AExpr.{AExpr}
+use Rattle.plan.specs.Orders.{∅}
 use Rattle.plan.specs.Look.{simplify-projected-exprs}
 use Rattle.storage.specs.Stored.{arena-of}
 use Rattle.plan.specs.Visit.{expr-order-simplifier}
@@ -18,6 +19,7 @@ pub record Started (line : List ℕ) (off : List Bool) (tally : Tally) (r : Stat
   pub line-is : r .line ≡ line
   pub off-is : r .off ≡ off
   pub tally-is : r .tally ≡ tally
+  pub answer-is : r .answer ≡ ∅
   pub cache-size : length (r .cache) ≡ 128
 
 -- a record whose children are the list

@@ -1,50 +1,45 @@
 // What a record does once its children have answered, by its kind.
 ghost use mathlib.Core.Path.{_≡_};
-ghost use mathlib.Core.Bool.{true, false};
-ghost use Rattle.plan.specs.Orders.{∅};
-ghost use Rattle.expr.specs.declared.after.Output.{Output};
-ghost use Rattle.plan.specs.Look.{after, function-output};
-ghost use Rattle.expr.specs.Acc.{acc-of};
+ghost use Rattle.plan.specs.Look.{twice, once, plain, after, function-output};
 ghost use Rattle.expr.specs.Record.{record-of};
-ghost use Rattle.expr.specs.Tables.{output-of, after-of, row-after, ternary-output, projected-row, filter-row, ternary-row, function-row, answers};
-use crate::order_acc::ExprOrderAcc;
-use crate::order_acc::Seen;
-use crate::order_acc::pick;
+ghost use Rattle.expr.specs.Tables.{output-of, after-of, ternary-output, projected-row, filter-row, ternary-row, function-row, answers};
 use crate::record::ExprRecord;
 use crate::record::first_child;
+use crate::seen::Seen;
+use crate::seen::pick;
 use plan::aexpr::AExpr;
 use plan::function_flags::FunctionFlags;
-use plan::orders::ObservableOrders;
+use plan::orders::ExprOrderAcc;
+use plan::orders::ObservableOrders as O;
 
-const EMPTY: ObservableOrders = ObservableOrders {
-    column: false,
-    independent: false,
-};
-
-const COLUMN: ObservableOrders = ObservableOrders {
-    column: true,
-    independent: false,
-};
-
-const INDEPENDENT: ObservableOrders = ObservableOrders {
-    column: false,
-    independent: true,
-};
-
-// An answer, as far as it is known before the single ordered child is looked at once more.
+// An answer from that of the second look.
 pub enum Output {
-    Is(ObservableOrders),
-    // The orders of the input: of the second look, or else those accumulated.
+    Is(O),
+    // The second look's own.
     Input,
     InputOrIndependent,
 }
 
+impl Output {
+    pub fn of(self, input: O) -> O
+        ensures { λ r. ⌜ r ≡ output-of self input ⌝ }
+    {
+        match self {
+            Output::Is(o) => o,
+            Output::Input => input,
+            Output::InputOrIndependent => input.union(O::INDEPENDENT),
+        }
+    }
+}
+
 pub struct After {
     // Handed to internal_observe.
-    pub observes: ObservableOrders,
+    pub observes: O,
     // Is the single ordered child looked at once more?
     pub again: bool,
-    pub answer: Output,
+    // Where no child is looked at again.
+    pub answer: O,
+    pub answer_again: Output,
     // cache_output!
     pub caches: bool,
 }
@@ -55,9 +50,9 @@ fn function_output(terminates_input_order: bool, non_order_producing: bool) -> O
 {
     if terminates_input_order {
         if non_order_producing {
-            Output::Is(EMPTY)
+            Output::Is(O::EMPTY)
         } else {
-            Output::Is(INDEPENDENT)
+            Output::Is(O::INDEPENDENT)
         }
     } else {
         if non_order_producing {
@@ -69,81 +64,76 @@ fn function_output(terminates_input_order: bool, non_order_producing: bool) -> O
 }
 
 // A Ternary's: the predicate's order is not the output's.
-fn ternary_output(again: bool, of_predicate: bool, branches: ObservableOrders) -> Output
-    ensures { λ r. ⌜ output-of r ≡ ternary-output again «of_predicate» branches ⌝ }
+fn ternary_output(of_predicate: bool) -> Output
+    ensures { λ r. ⌜ output-of r ≡ ternary-output «of_predicate» ⌝ }
 {
-    if again {
-        if of_predicate {
-            Output::Is(EMPTY)
-        } else {
-            Output::Input
-        }
+    if of_predicate {
+        Output::Is(O::EMPTY)
     } else {
-        Output::Is(branches)
+        Output::Input
     }
 }
 
 impl After {
-    fn row(observes: ObservableOrders, again: bool, answer: Output, caches: bool) -> After
-        ensures { λ r. ⌜ r ≡ row-after observes again answer caches ⌝ }
+    // A kind that may look at a child again.
+    fn twice(observes: O, again: bool, answer: O, answer_again: Output, caches: bool) -> After
+        ensures { λ r. ⌜ after-of r ≡ twice observes again answer (output-of «answer_again») caches ⌝ }
     {
         After {
             observes: observes,
             again: again,
             answer: answer,
+            answer_again: answer_again,
             caches: caches,
         }
     }
 
-    // A kind that observes nothing, looks at no child again and caches nothing.
-    fn plain(o: ObservableOrders) -> After
-        ensures { λ r. ⌜ r ≡ row-after ∅ false (Output.Is o) false ⌝ }
+    // A kind that looks at no child again.
+    fn once(observes: O, answer: O, caches: bool) -> After
+        ensures { λ r. ⌜ after-of r ≡ once observes answer caches ⌝ }
     {
-        After::row(EMPTY, false, Output::Is(o), false)
+        After::twice(observes, false, answer, Output::Is(answer), caches)
     }
 
-    // A kind that looks at no child again.
-    fn once(observes: ObservableOrders, o: ObservableOrders, caches: bool) -> After
-        ensures { λ r. ⌜ r ≡ row-after observes false (Output.Is o) caches ⌝ }
+    // And observes nothing and caches nothing.
+    fn plain(answer: O) -> After
+        ensures { λ r. ⌜ after-of r ≡ plain answer ⌝ }
     {
-        After::row(observes, false, Output::Is(o), caches)
+        After::once(O::EMPTY, answer, false)
     }
 
     // BinaryExpr and StructEval: the single ordered child is looked at again where nothing was mixed.
     fn projected(x: ExprOrderAcc, allow: bool) -> After
-        ensures { λ r. ⌜ after-of r ≡ projected-row (acc-of x) allow ⌝ }
+        ensures { λ r. ⌜ after-of r ≡ projected-row x allow ⌝ }
     {
         let acc = x.acc;
         let mixed = x.saw_mixed_inputs;
         let again = !mixed & (x.num_ordered_inputs == 1) & allow;
-        After::row(pick(mixed, acc, EMPTY), again, Output::Input, mixed | again)
+        let observes = pick(mixed, acc, O::EMPTY);
+        After::twice(observes, again, acc, Output::Input, mixed | again)
     }
 
     // The by is looked at again where it alone is ordered.
-    fn filter(
-        x: ExprOrderAcc,
-        mixed: ObservableOrders,
-        o0: ObservableOrders,
-        o1: ObservableOrders,
-    ) -> After
-        ensures { λ r. ⌜ after-of r ≡ filter-row (acc-of x) mixed o0 o1 ⌝ }
+    fn filter(x: ExprOrderAcc, mixed: O, o0: O, o1: O) -> After
+        ensures { λ r. ⌜ after-of r ≡ filter-row x mixed o0 o1 ⌝ }
     {
         let by_alone = o0.is_empty() & !o1.is_empty();
         let again = !x.saw_mixed_inputs & (x.num_ordered_inputs == 1) & by_alone;
-        After::row(mixed, again, Output::Is(o0), true)
+        After::twice(mixed, again, o0, Output::Is(o0), true)
     }
 
-    fn ternary(x: ExprOrderAcc, allow: bool, predicate: u8, branches: ObservableOrders) -> After
-        ensures { λ r. ⌜ after-of r ≡ ternary-row (acc-of x) allow predicate branches ⌝ }
+    fn ternary(x: ExprOrderAcc, allow: bool, predicate: u8, branches: O) -> After
+        ensures { λ r. ⌜ after-of r ≡ ternary-row x allow predicate branches ⌝ }
     {
         let mixed = x.saw_mixed_inputs;
         let again = !mixed & (x.num_ordered_inputs == 1) & allow;
-        let output = ternary_output(again, x.last_ordered_node == predicate, branches);
-        After::row(pick(mixed, branches, EMPTY), again, output, mixed | again)
+        let output = ternary_output(x.last_ordered_node == predicate);
+        let observes = pick(mixed, branches, O::EMPTY);
+        After::twice(observes, again, branches, output, mixed | again)
     }
 
     fn function(x: ExprOrderAcc, allow: bool, option: u8) -> After
-        ensures { λ r. ⌜ after-of r ≡ function-row (acc-of x) allow option ⌝ }
+        ensures { λ r. ⌜ after-of r ≡ function-row x allow option ⌝ }
     {
         let flags = FunctionFlags { bits: option };
         let observes = flags.observes_input_order();
@@ -152,18 +142,19 @@ impl After {
         let acc = x.acc;
         let mixed = x.saw_mixed_inputs;
         let again = (x.num_ordered_inputs == 1) & !observes & (allow | terminates);
-        let observed = pick(observes, acc, EMPTY);
-        After::row(
-            observed.union(pick(mixed, acc, EMPTY)),
+        let observed = pick(observes, acc, O::EMPTY);
+        After::twice(
+            observed.union(pick(mixed, acc, O::EMPTY)),
             again,
+            output.of(acc),
             output,
             mixed | again,
         )
     }
 
     // allow: is de-ordering allowed? field: struct_field_ordering. seen: what the children answered.
-    pub fn of(e: ExprRecord, allow: bool, field: ObservableOrders, seen: Seen) -> After
-        ensures { λ r. ⌜ after-of r ≡ after (record-of e) allow field (answers seen) (acc-of (seen .acc)) (e .kind) ⌝ }
+    pub fn of(e: ExprRecord, allow: bool, field: O, seen: Seen) -> After
+        ensures { λ r. ⌜ after-of r ≡ after (record-of e) allow field (answers seen) (seen .acc) (e .kind) ⌝ }
     {
         let kind = e.kind;
         let x = seen.acc;
@@ -172,53 +163,41 @@ impl After {
         let o1 = seen.second;
         let o2 = seen.third;
         let set = e.option == 1;
-        let mixed = pick(x.saw_mixed_inputs, acc, EMPTY);
+        let mixed = pick(x.saw_mixed_inputs, acc, O::EMPTY);
         match kind {
-            AExpr::Column => After::plain(COLUMN),
-            AExpr::Literal => After::plain(pick(e.scalar, EMPTY, INDEPENDENT)),
-            AExpr::Element => After::plain(INDEPENDENT),
+            AExpr::Column => After::plain(O::COLUMN),
+            AExpr::Literal => After::plain(pick(e.scalar, O::EMPTY, O::INDEPENDENT)),
+            AExpr::Element => After::plain(O::INDEPENDENT),
             AExpr::StructField => After::plain(field),
-            AExpr::Len => After::plain(EMPTY),
+            AExpr::Len => After::plain(O::EMPTY),
             AExpr::BinaryExpr => After::projected(x, allow),
             AExpr::Ternary => After::ternary(x, allow, first_child(e), o0.union(o1)),
             AExpr::Cast => After::plain(o0),
-            AExpr::Explode => After::plain(o0.union(INDEPENDENT)),
-            AExpr::Sort => After::plain(INDEPENDENT),
+            AExpr::Explode => After::plain(o0.union(O::INDEPENDENT)),
+            AExpr::Sort => After::plain(O::INDEPENDENT),
             AExpr::SortBy => After::once(
                 mixed,
-                pick(set, o0.union(INDEPENDENT), INDEPENDENT),
+                pick(set, o0.union(O::INDEPENDENT), O::INDEPENDENT),
                 false,
             ),
             AExpr::Filter => After::filter(x, mixed, o0, o1),
-            AExpr::Gather => After::once(o0, pick(set | o0.is_empty(), EMPTY, o1), true),
+            AExpr::Gather => After::once(o0, pick(set | o0.is_empty(), O::EMPTY, o1), true),
             AExpr::Slice => After::once(o2.union(mixed), o2, false),
             AExpr::Eval => After::once(
-                pick(set, o0, EMPTY),
-                pick(set, o0.union(INDEPENDENT), o0),
+                pick(set, o0, O::EMPTY),
+                pick(set, o0.union(O::INDEPENDENT), o0),
                 true,
             ),
             AExpr::StructEval => After::projected(x, allow),
-            AExpr::Over => After::once(acc, acc.union(INDEPENDENT), true),
-            AExpr::Rolling => After::once(acc, acc.union(INDEPENDENT), true),
-            AExpr::MinBy => After::once(acc, EMPTY, true),
+            AExpr::Over => After::once(acc, acc.union(O::INDEPENDENT), true),
+            AExpr::Rolling => After::once(acc, acc.union(O::INDEPENDENT), true),
+            AExpr::MinBy => After::once(acc, O::EMPTY, true),
             AExpr::Function => After::function(x, allow, e.option),
-            AExpr::AnonymousAgg => After::once(acc, acc.union(INDEPENDENT), true),
-            AExpr::First => After::once(o0, EMPTY, true),
-            AExpr::Min => After::once(EMPTY, EMPTY, true),
-            AExpr::Implode => After::once(pick(set, o0, EMPTY), EMPTY, !set | o0.is_empty()),
-            AExpr::AggGroups => After::once(o0, o0.union(INDEPENDENT), true),
+            AExpr::AnonymousAgg => After::once(acc, acc.union(O::INDEPENDENT), true),
+            AExpr::First => After::once(o0, O::EMPTY, true),
+            AExpr::Min => After::once(O::EMPTY, O::EMPTY, true),
+            AExpr::Implode => After::once(pick(set, o0, O::EMPTY), O::EMPTY, !set | o0.is_empty()),
+            AExpr::AggGroups => After::once(o0, o0.union(O::INDEPENDENT), true),
         }
-    }
-}
-
-// The answer, from the orders of the input.
-pub fn answer(v: After, input: ObservableOrders) -> ObservableOrders
-    ensures { λ r. ⌜ r ≡ after-of v .answer input ⌝ }
-{
-    let output = v.answer;
-    match output {
-        Output::Is(o) => o,
-        Output::Input => input,
-        Output::InputOrIndependent => input.union(INDEPENDENT),
     }
 }

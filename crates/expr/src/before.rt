@@ -1,68 +1,55 @@
 // What stands before the looks along a record's children, by its kind.
 ghost use mathlib.Core.Path.{_≡_};
-ghost use Rattle.plan.specs.Look.{before};
+ghost use Rattle.plan.specs.Look.{before, row};
 ghost use Rattle.expr.specs.Record.{record-of};
-ghost use Rattle.expr.specs.Tables.{before-of, row-of};
 use crate::record::ExprRecord;
 use plan::aexpr::AExpr;
+use plan::looks::Before;
 
-pub struct Before {
-    // check_return_cached! stands at its head.
-    pub checks: bool,
-    // The first child is looked at last.
-    pub turned: bool,
-    // Is de-ordering allowed in the look that comes first, and in the others?
-    pub first: bool,
-    pub others: bool,
+fn row(checks: bool, turned: bool, first: bool) -> Before
+    ensures { λ r. ⌜ r ≡ row checks turned first ⌝ }
+{
+    Before {
+        checks: checks,
+        turned: turned,
+        first: first,
+    }
 }
 
-impl Before {
-    fn row(checks: bool, turned: bool, first: bool, others: bool) -> Before
-        ensures { λ r. ⌜ r ≡ row-of checks turned first others ⌝ }
-    {
-        Before {
-            checks: checks,
-            turned: turned,
-            first: first,
-            others: others,
-        }
-    }
-
-    // allow: is de-ordering allowed where the record is looked at?
-    pub fn of(e: ExprRecord, allow: bool) -> Before
-        ensures { λ r. ⌜ before-of r ≡ before (record-of e) allow (e .kind) ⌝ }
-    {
-        let kind = e.kind;
-        match kind {
-            AExpr::Column => Before::row(false, false, false, false),
-            AExpr::Literal => Before::row(false, false, false, false),
-            AExpr::Element => Before::row(false, false, false, false),
-            AExpr::StructField => Before::row(false, false, false, false),
-            AExpr::Len => Before::row(false, false, false, false),
-            AExpr::BinaryExpr => Before::row(true, false, false, false),
-            // truthy, falsy, predicate
-            AExpr::Ternary => Before::row(true, true, false, false),
-            AExpr::Cast => Before::row(false, false, allow, false),
-            AExpr::Explode => Before::row(false, false, allow, false),
-            // An expression's sort never maintains order.
-            AExpr::Sort => Before::row(false, false, true, false),
-            AExpr::SortBy => Before::row(false, false, allow, false),
-            AExpr::Filter => Before::row(true, false, false, false),
-            AExpr::Gather => Before::row(true, false, false, false),
-            // offset, length, input
-            AExpr::Slice => Before::row(false, true, false, false),
-            AExpr::Eval => Before::row(true, false, false, false),
-            AExpr::StructEval => Before::row(true, false, false, false),
-            AExpr::Over => Before::row(true, false, false, false),
-            AExpr::Rolling => Before::row(true, false, false, false),
-            AExpr::MinBy => Before::row(true, false, false, false),
-            AExpr::Function => Before::row(true, false, false, false),
-            AExpr::AnonymousAgg => Before::row(true, false, false, false),
-            AExpr::First => Before::row(true, false, false, false),
-            AExpr::Min => Before::row(true, false, true, false),
-            // Allowed unless it maintains order.
-            AExpr::Implode => Before::row(true, false, e.option != 1, false),
-            AExpr::AggGroups => Before::row(true, false, false, false),
-        }
+// allow: is de-ordering allowed where the record is looked at?
+pub fn before_of(e: ExprRecord, allow: bool) -> Before
+    ensures { λ r. ⌜ r ≡ before (record-of e) allow (e .kind) ⌝ }
+{
+    let kind = e.kind;
+    match kind {
+        AExpr::Column => row(false, false, false),
+        AExpr::Literal => row(false, false, false),
+        AExpr::Element => row(false, false, false),
+        AExpr::StructField => row(false, false, false),
+        AExpr::Len => row(false, false, false),
+        AExpr::BinaryExpr => row(true, false, false),
+        // truthy, falsy, predicate
+        AExpr::Ternary => row(true, true, false),
+        AExpr::Cast => row(false, false, allow),
+        AExpr::Explode => row(false, false, allow),
+        // An expression's sort never maintains order.
+        AExpr::Sort => row(false, false, true),
+        AExpr::SortBy => row(false, false, allow),
+        AExpr::Filter => row(true, false, false),
+        AExpr::Gather => row(true, false, false),
+        // offset, length, input
+        AExpr::Slice => row(false, true, false),
+        AExpr::Eval => row(true, false, false),
+        AExpr::StructEval => row(true, false, false),
+        AExpr::Over => row(true, false, false),
+        AExpr::Rolling => row(true, false, false),
+        AExpr::MinBy => row(true, false, false),
+        AExpr::Function => row(true, false, false),
+        AExpr::AnonymousAgg => row(true, false, false),
+        AExpr::First => row(true, false, false),
+        AExpr::Min => row(true, false, true),
+        // Allowed unless it maintains order.
+        AExpr::Implode => row(true, false, e.option != 1),
+        AExpr::AggGroups => row(true, false, false),
     }
 }

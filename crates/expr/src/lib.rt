@@ -2,8 +2,8 @@
 pub mod after; // after.rt: what a record does once its children have answered
 pub mod before; // before.rt: what stands before the looks along a record's children
 pub mod look; // look.rt: a look at a record, and along its children
-pub mod order_acc; // order_acc.rt: ExprOrderAcc
 pub mod projected; // projected.rt: a list of projected expressions, and the start of a visit
 pub mod record; // record.rt: ExprRecord
 pub mod revisit_cache; // revisit_cache.rt: an entry of the revisit cache
+pub mod seen; // seen.rt: what is seen of a record's children
 pub mod start; // start.rt: the lines before anything is changed

@@ -8,22 +8,23 @@ ghost use lib.Dec.{eqb};
 ghost use Rattle.plan.specs.Kinds.{same-aexpr};
 ghost use Rattle.plan.specs.Lists.{if_then_else_, yes?, all?};
 ghost use Rattle.plan.specs.Orders.{is-empty};
+ghost use Rattle.plan.specs.Look.{NO-DEORDER};
 ghost use Rattle.plan.specs.declared.aexpr.AExpr.{AExpr};
 ghost use Rattle.expr.specs.Tables.{after-of};
 ghost use Rattle.expr.specs.Record.{record-of, Shaped};
 ghost use Rattle.expr.specs.State.{state, preserves, is-replaced-line, Readable};
-ghost use Rattle.expr.specs.Contract.{walked, Ended, LookAsks, LookGives, AgainAsks, AgainGives, AlongAsks, AlongGives};
+ghost use Rattle.expr.specs.Contract.{walked, Ended, LookAsks, LookGives, AlongAsks, AlongGives};
 use crate::after::After;
-use crate::after::answer;
-use crate::before::Before;
-use crate::order_acc::Seen;
+use crate::before::before_of;
 use crate::record::ExprRecord;
 use crate::record::child_of;
 use crate::record::expr_of;
 use crate::record::first_child;
 use crate::revisit_cache::packed;
 use crate::revisit_cache::unpacked;
+use crate::seen::Seen;
 use plan::aexpr::AExpr;
+use plan::looks::Before;
 use plan::orders::ObservableOrders;
 use plan::tally::Tally;
 use tally::looked;
@@ -105,11 +106,11 @@ fn enters_struct(kind: AExpr, i: u8) -> bool
     (i == 0) & same(kind, AExpr::StructEval)
 }
 
-// Is de-ordering allowed in the i-th look?
+// Is de-ordering allowed in the i-th look? Only the first has a mode of its own.
 fn mode(b: Before, i: u8) -> bool
-    ensures { λ r. ⌜ r ≡ (if eqb i 0 then b .first else b .others) ⌝ }
+    ensures { λ r. ⌜ r ≡ (if eqb i 0 then b .first else NO-DEORDER) ⌝ }
 {
-    if i == 0 { b.first } else { b.others }
+    if i == 0 { b.first } else { false }
 }
 
 // The end of a look at p, whose record was e: o the answer, field the struct's field before it, first the first child's answer.
@@ -162,7 +163,7 @@ pub fn look(
     let entry = cache[p];
     let field = t.field;
     let e = expr_of(recs, l, off[p]);
-    let b = Before::of(e, allow);
+    let b = before_of(e, allow);
     if b.checks & (entry != 0) {
         let o = unpacked(entry);
         t.answer = o;
@@ -179,43 +180,20 @@ pub fn look(
     let none = Seen::new();
     if e.count == 0 {
         let v = After::of(e, allow, field, none);
-        let o = answer(v, none.first);
-        return look_ended(off, cache, t, p, e, v, o, field, none.first);
+        return look_ended(off, cache, t, p, e, v, v.answer, field, none.first);
     }
     let w = look_along(recs, line, off, cache, n, t, e, b, l, none, 0);
     let u = w.state;
     let seen = w.seen;
-    let first = seen.first;
-    let acc = seen.acc;
     let v = After::of(e, allow, field, seen);
     if v.again {
-        let node = acc.last_ordered_node as usize;
-        return look_again(recs, line, off, cache, n, u, node, p, e, v, field, first);
+        let node = seen.acc.last_ordered_node as usize;
+        let again = look(recs, line, off, cache, n, u, node, true);
+        let output = v.answer_again;
+        let o = output.of(again.answer);
+        return look_ended(off, cache, again, p, e, v, o, field, seen.first);
     }
-    let o = answer(v, acc.acc);
-    look_ended(off, cache, u, p, e, v, o, field, first)
-}
-
-// The single ordered child once more, and the end of the look at p.
-fn look_again(
-    recs: &[u8; 2048],
-    line: &mut [u8; 128],
-    off: &mut [bool; 128],
-    cache: &mut [u8; 128],
-    n: usize,
-    s: Eos,
-    node: usize,
-    p: usize,
-    e: ExprRecord,
-    v: After,
-    field: ObservableOrders,
-    first: ObservableOrders,
-) -> Eos
-    requires { ⌜ AgainAsks (now recs) n (state (now line) (now off) (now cache) s) node p ⌝ }
-    ensures { λ r. ⌜ AgainGives (now (recs .entry)) n (state (now (line .entry)) (now (off .entry)) (now (cache .entry)) s) node p (record-of e) (after-of v) field first (state (now (line .exit)) (now (off .exit)) (now (cache .exit)) r) ⌝ }
-{
-    let u = look(recs, line, off, cache, n, s, node, true);
-    look_ended(off, cache, u, p, e, v, answer(v, u.answer), field, first)
+    look_ended(off, cache, u, p, e, v, v.answer, field, seen.first)
 }
 
 // A look along the children of e from the i-th on; each is below l.

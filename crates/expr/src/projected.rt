@@ -5,21 +5,16 @@ ghost use mathlib.Core.List.{List};
 ghost use Prim.Native.Nat.{ℕ};
 ghost use Rattle.expr.specs.State.{state};
 ghost use Rattle.expr.specs.Projected.{list-record, Started, ListAsks, ListGives};
-use crate::before::Before;
 use crate::look::Eos;
 use crate::look::look;
 use crate::look::look_along;
-use crate::order_acc::Seen;
-use crate::order_acc::pick;
 use crate::record::ExprRecord;
+use crate::seen::Seen;
+use crate::seen::pick;
 use plan::aexpr::AExpr;
+use plan::looks::Before;
 use plan::orders::ObservableOrders;
 use plan::tally::Tally;
-
-const EMPTY: ObservableOrders = ObservableOrders {
-    column: false,
-    independent: false,
-};
 
 // expr_order_simplifier!
 pub fn expr_order_simplifier(cache: &mut [u8; 128], tally: Tally) -> Eos
@@ -27,10 +22,10 @@ pub fn expr_order_simplifier(cache: &mut [u8; 128], tally: Tally) -> Eos
 {
     *cache = [0; 128];
     Eos {
-        field: EMPTY,
-        observed: EMPTY,
+        field: ObservableOrders::EMPTY,
+        observed: ObservableOrders::EMPTY,
         tally: tally,
-        answer: EMPTY,
+        answer: ObservableOrders::EMPTY,
     }
 }
 
@@ -64,7 +59,7 @@ pub fn simplify_projected_exprs(
 {
     if count == 0 {
         let mut t = s;
-        let none = EMPTY;
+        let none = ObservableOrders::EMPTY;
         t.answer = none;
         return t;
     }
@@ -73,14 +68,14 @@ pub fn simplify_projected_exprs(
         checks: false,
         turned: false,
         first: false,
-        others: false,
     };
     let w = look_along(recs, line, off, cache, n, s, e, b, n as u8, Seen::new(), 0);
     let mut t = w.state;
     let seen = w.seen;
     let acc = seen.acc;
     let so_far = t.observed;
-    let observed = so_far.union(pick(acc.saw_mixed_inputs, acc.acc, EMPTY));
+    let mixed = pick(acc.saw_mixed_inputs, acc.acc, ObservableOrders::EMPTY);
+    let observed = so_far.union(mixed);
     t.observed = observed;
     if (acc.num_ordered_inputs == 1) & allow_deordering_top {
         return look(

@@ -4,7 +4,7 @@ use mathlib.Core.List.{List}
 use Rattle.claims.proofs.Taken.{well-formed}
 use Rattle.reading.specs.declared.Counts.{Counts}
 use Rattle.reading.proofs.Accepted.{Read-plan}
-use Rattle.expr.proofs.Asked.{Read-exprs}
+use Rattle.expr.specs.Read.{Read-exprs}
 
 pub read-exprs : (s es ps : List ℕ) (c : Counts) → Read-plan s es ps c → Read-exprs es (c .exprs)
 read-exprs s es ps c k =

@@ -5,7 +5,7 @@ ghost use mathlib.Core.Bool.{true};
 ghost use Prim.Native.Nat.{_+_, _≤_, _<_};
 ghost use lib.ListN.{length, take};
 ghost use Rattle.expr.specs.State.{Falls};
-ghost use Rattle.expr.proofs.Asked.{Read-exprs};
+ghost use Rattle.expr.specs.Read.{Read-exprs};
 use expr::look::Eos;
 use expr::projected::expr_order_simplifier;
 use expr::projected::simplify_projected_exprs;

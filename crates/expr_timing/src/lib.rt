@@ -5,7 +5,7 @@ ghost use Prim.Native.Nat.{_<_};
 ghost use Rattle.plan.specs.Look.{simplify-projected-exprs};
 ghost use Rattle.storage.specs.Stored.{stored-exprs};
 ghost use Rattle.plan.specs.Visit.{expr-order-simplifier};
-ghost use Rattle.expr.proofs.Asked.{Read-exprs};
+ghost use Rattle.expr.specs.Read.{Read-exprs};
 use expr::projected::expr_order_simplifier;
 use expr::projected::simplify_projected_exprs;
 use expr::start::none_off;

@@ -13,8 +13,9 @@ use Rattle.plan.specs.Graph.{graph, is-cache}
 use Rattle.plan.specs.declared.rules.Options.{Options}
 use Rattle.plan.specs.declared.rules.Around.{Around}
 use Rattle.plan.specs.declared.rules.Observable.{Observable}
-use Rattle.plan.specs.Visit.{Run, arm, rule, ruling, looked-in, looks-of, simplify-ir-node-orders}
+use Rattle.plan.specs.Visit.{Run, arm, rule, looked-in, looks-of, simplify-ir-node-orders, ruling-of}
 use Rattle.plan.specs.Walks.{begin, down, up}
+use Rattle.plan.proofs.Settling.{ruling}
 use Rattle.claims.specs.WellFormed.{WellFormed}
 use Rattle.plan.proofs.Booleans.{T-eq, all-at}
 use Rattle.plan.proofs.Outcomes.{both-done}
@@ -33,7 +34,7 @@ unfolding arm
 ruled-cache s e o i = ap (λ (k : IR). arm s e o rust-functions k .options .kind) i ∙ i
 
 cache-ruled : (n : ℕ) (r : Run) → same-ir (ruling n r .options .kind) IR.Cache ≡ is-cache (r .steps) n
-unfolding ruling looked-in looks-of
+unfolding ruling-of looked-in looks-of
 cache-ruled n r =
     let Is : IR → Type 0 = λ k. T (same-ir k IR.Cache) in
     T-eq (same-ir (ruling n r .options .kind) IR.Cache) (is-cache (r .steps) n)

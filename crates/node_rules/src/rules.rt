@@ -3,7 +3,7 @@ ghost use mathlib.Core.Path.{_≡_};
 ghost use mathlib.Core.Bool.{false};
 ghost use Rattle.plan.specs.Lists.{if_then_else_};
 ghost use Rattle.plan.specs.FunctionIR.{rust-functions};
-ghost use Rattle.plan.specs.Visit.{rule, arm, ruled, unmaintained-if, first-or-last, select-in, select-out, sort-in, filter-in, filter-out, group-by-in, group-by-out, gather-idxs, gather-out, union-all, map-in, map-out, cache-in, cache-outs, sink-in, allow-deordering-top, join-fails, sink-fails};
+ghost use Rattle.plan.specs.Visit.{rule, arm, ruled, unmaintained-if, first-or-last, is-hstack, select-in, select-out, sort-in, filter-in, filter-out, group-by-in, group-by-out, gather-idxs, gather-out, union-all, map-in, map-out, cache-in, cache-outs, sink-in, allow-deordering-top, refusal-number};
 use crate::joins::join_rule;
 use plan::distinct::UniqueKeepStrategy;
 use plan::function_ir::FunctionIR;
@@ -50,17 +50,24 @@ fn unmaintained(s: Options, off: bool, in0: bool, later: bool, out: bool) -> Rul
     ruled(options, in0, later, out)
 }
 
+// Is it an HStack that keeps columns of its input?
+fn is_hstack(s: Options) -> bool
+    ensures { λ r. ⌜ r ≡ is-hstack s ⌝ }
+{
+    let kind = s.kind;
+    (kind.number() == 4) & !(s.a == s.n2)
+}
+
 // Select and HStack.
 fn select_rule(s: Options, e: Around, o: Observable) -> Ruled
     ensures { λ r. ⌜ r ≡ ruled s (select-in s e o) false (select-out s e o) ⌝ }
 {
-    let kind = s.kind;
-    let is_hstack = (kind.number() == 4) & !(s.a == s.n2);
-    let input_order_observe = ((o.exprs.column | is_hstack) & !e.out)
-        | (is_hstack & o.exprs.independent)
+    let hstack = is_hstack(s);
+    let input_order_observe = ((o.exprs.column | hstack) & !e.out)
+        | (hstack & o.exprs.independent)
         | o.internal.column;
     let select_in = !input_order_observe;
-    let select_out = !o.exprs.independent & ((e.in0 | select_in) | !(is_hstack | o.exprs.column));
+    let select_out = !o.exprs.independent & ((e.in0 | select_in) | !(hstack | o.exprs.column));
     ruled(s, select_in, false, select_out)
 }
 
@@ -219,11 +226,8 @@ pub fn allow_deordering_top(s: Options, e: Around) -> bool
 {
     let kind = s.kind;
     let k = kind.number();
-    if k == 3 {
-        return e.out;
-    }
-    if k == 4 {
-        return e.out & (e.in0 | (s.a == s.n2));
+    if (k == 3) | (k == 4) {
+        return e.out & (e.in0 | !is_hstack(s));
     }
     if k == 7 {
         return e.in0 & !(s.a == 1);
@@ -233,7 +237,7 @@ pub fn allow_deordering_top(s: Options, e: Around) -> bool
 
 // Join keys and the keys of a partitioned Sink should be elementwise: 10 or 11 where they are not, 0 where they are.
 pub fn refusal_of(s: Options, o: Observable) -> u8
-    ensures { λ r. ⌜ r ≡ (if join-fails s o then 10 else if sink-fails s o then 11 else 0) ⌝ }
+    ensures { λ r. ⌜ r ≡ refusal-number s o ⌝ }
 {
     let kind = s.kind;
     let k = kind.number();

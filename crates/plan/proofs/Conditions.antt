@@ -12,12 +12,13 @@ use Rattle.plan.specs.Kinds.{same-ir, ir-number}
 use Rattle.plan.specs.Lists.{if_then_else_, yes?, empty?}
 use Rattle.plan.proofs.ListLaws.{and-left, and-right}
 use Rattle.plan.specs.Sheet.{Sheet, Outcome, refused, done, _then_, refuse_when_else_, Line, E, P, line-of, expr-fits, expr-of, with-expr, step-fits, step-of, with-step, over-limits, no-plan, read-line, read-lines, onto, parts}
-use Rattle.plan.specs.Visit.{Run, Looked, simplify-ir-node-orders, goes, unlink-node, settle, settled, refusal-in, looked-in, looks-of, options-of, join-fails, sink-fails, elementwise}
+use Rattle.plan.specs.Visit.{Run, Looked, simplify-ir-node-orders, goes, unlink-node, settle, looked-in, looks-of, options-of, join-fails, sink-fails, elementwise, refusal-number}
 use Rattle.plan.specs.Walks.{walk, trace, then-all}
 use Rattle.plan.specs.Conditions.{Join-observes, Sink-observes, Not-of-form, Outside-table, In-table, Read-into, At-line, At-end}
 use Rattle.plan.proofs.Counts.{true-of, not-both}
 use Rattle.plan.proofs.Booleans.{and-both}
 use Rattle.plan.proofs.KindNumbers.{same-kind}
+use Rattle.plan.proofs.Settling.{settled, refusal-in}
 
 -- Outcomes that came to a refusal -------------------------------------------------------------------------------------------------
 
@@ -230,7 +231,7 @@ pub data Visit-came (n : ℕ) (r : Run) : Outcome Run → Type 0 where
   passes : {r′ : Run} → Visit-came n r (done r′)
 
 pub visit-came : (n : ℕ) (r : Run) → Visit-came n r (simplify-ir-node-orders n r)
-unfolding simplify-ir-node-orders settle refusal-in looked-in
+unfolding simplify-ir-node-orders settle refusal-number looked-in
 visit-came n r = by (goes n r)
   where
     l : Rattle.plan.specs.Visit.Looked
@@ -268,7 +269,7 @@ module _ (n : ℕ) (r : Run) where
       ∙ ap (λ (b : Bool). if b then done (settled n r) else refused k) z
 
   pub join-comes : (let l = looked-in n r in T (join-fails (options-of (l .step)) (l .observable))) → simplify-ir-node-orders n r ≡ refused 10
-  unfolding refusal-in looked-in
+  unfolding refusal-number looked-in
   join-comes t =
       let l = looked-in n r in
       let kind = same-kind (l .step .kind) IR.Join (and-left (same-ir (l .step .kind) IR.Join) (not (elementwise (l .observable))) t) in
@@ -276,7 +277,7 @@ module _ (n : ℕ) (r : Run) where
       (ap (λ (a : Bool). if a then 10 else if sink-fails (options-of (l .step)) (l .observable) then 11 else 0) (true-of (join-fails (options-of (l .step)) (l .observable)) t))
 
   pub sink-comes : (let l = looked-in n r in T (sink-fails (options-of (l .step)) (l .observable))) → simplify-ir-node-orders n r ≡ refused 11
-  unfolding refusal-in looked-in
+  unfolding refusal-number looked-in
   sink-comes t =
       let l = looked-in n r in
       let is = same-ir (l .step .kind) IR.Sink in

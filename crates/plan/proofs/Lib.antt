@@ -5,6 +5,7 @@ pub mod Counts
 pub mod Outcomes
 pub mod KindNumbers
 pub mod Decimals
+pub mod Settling
 pub mod FaultLaws
 pub mod Firsts
 pub mod LineFaults

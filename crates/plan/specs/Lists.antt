@@ -5,7 +5,7 @@ use mathlib.Core.List.{List, [], _∷_, _++_}
 use lib.Dec.{eqb}
 
 infix 5 if_then_else_
--- both branches are handed over, so neither is a recursive call (where one has to be, the definition says `elim`)
+-- both branches are handed over. `parts`, `value` and `digits` say `elim` instead, by which only the branch taken is computed
 abbrev pub if_then_else_ {ℓ} : {A : Type ℓ} → Bool → A → A → A
 if_then_else_ true a b = a
 if_then_else_ false a b = b

@@ -8,12 +8,14 @@ use lib.ListN.{getD, set, length, take, drop}
 use Rattle.plan.specs.declared.tally.Tally.{Tally}
 use Rattle.plan.specs.Tally.{look-more}
 use Rattle.plan.specs.declared.aexpr.AExpr.{AExpr}
+use Rattle.plan.specs.declared.looks.Before.{Before}
+use Rattle.plan.specs.declared.orders.ExprOrderAcc.{ExprOrderAcc}
 use Rattle.plan.specs.declared.orders.ObservableOrders.{ObservableOrders}
 use Rattle.plan.specs.Kinds.{same-aexpr}
 use Rattle.plan.specs.FunctionFlags.{observes-input-order, terminates-input-order, non-order-producing}
 use Rattle.plan.specs.Lists.{if_then_else_, yes?, all?, first-last}
 use Rattle.plan.specs.Sheet.{Expr, expr-at}
-use Rattle.plan.specs.Orders.{∅, COLUMN, INDEPENDENT, _∪_, is-empty, ExprOrderAcc, no-orders, add, single}
+use Rattle.plan.specs.Orders.{∅, COLUMN, INDEPENDENT, _∪_, is-empty, no-orders, add, single}
 
 -- what the looks of one visit share, and the run's tally
 pub record Eos : Type 0 where
@@ -89,44 +91,40 @@ NO-DEORDER = false
 abbrev pub ALLOW-DEORDER : Bool
 ALLOW-DEORDER = true
 
-pub record Before : Type 0 where
-  pub checks : Bool  -- check_return_cached! stands at its head
-  pub turned : Bool  -- the first child is looked at last
-  pub first : Bool  -- the mode of the look that comes first
-  pub others : Bool  -- and of the others
-
-abbrev pub row : Bool → Bool → Bool → Bool → Before
-row c t f o = record { checks = c; turned = t; first = f; others = o }
+-- Before is the code's own type (plan/src/looks.rt): does it check the cache, is its first child looked at last, and the mode of
+-- the look that comes first
+abbrev pub row : Bool → Bool → Bool → Before
+row c t f = record { checks = c; turned = t; first = f }
 
 -- e the record, allow the mode in which it is looked at
 module _ (e : Expr) (allow : Bool) where
-  --                            checks turned first         others
+  --                            checks turned first
   unfoldable pub before : AExpr → Before
-  before AExpr.Column = row false false NO-DEORDER NO-DEORDER
-  before AExpr.Literal = row false false NO-DEORDER NO-DEORDER
-  before AExpr.Element = row false false NO-DEORDER NO-DEORDER
-  before AExpr.StructField = row false false NO-DEORDER NO-DEORDER
-  before AExpr.Len = row false false NO-DEORDER NO-DEORDER
-  before AExpr.BinaryExpr = row true false NO-DEORDER NO-DEORDER
-  before AExpr.Ternary = row true true NO-DEORDER NO-DEORDER  -- truthy, falsy, predicate
-  before AExpr.Cast = row false false allow NO-DEORDER
-  before AExpr.Explode = row false false allow NO-DEORDER
-  before AExpr.Sort = row false false ALLOW-DEORDER NO-DEORDER  -- an expression's sort never maintains order
-  before AExpr.SortBy = row false false allow NO-DEORDER
-  before AExpr.Filter = row true false NO-DEORDER NO-DEORDER
-  before AExpr.Gather = row true false NO-DEORDER NO-DEORDER
-  before AExpr.Slice = row false true NO-DEORDER NO-DEORDER  -- offset, length, input
-  before AExpr.Eval = row true false NO-DEORDER NO-DEORDER
-  before AExpr.StructEval = row true false NO-DEORDER NO-DEORDER
-  before AExpr.Over = row true false NO-DEORDER NO-DEORDER
-  before AExpr.Rolling = row true false NO-DEORDER NO-DEORDER
-  before AExpr.MinBy = row true false NO-DEORDER NO-DEORDER
-  before AExpr.Function = row true false NO-DEORDER NO-DEORDER
-  before AExpr.AnonymousAgg = row true false NO-DEORDER NO-DEORDER
-  before AExpr.First = row true false NO-DEORDER NO-DEORDER
-  before AExpr.Min = row true false ALLOW-DEORDER NO-DEORDER
-  before AExpr.Implode = row true false (not (yes? (e .option))) NO-DEORDER  -- allowed unless it maintains order
-  before AExpr.AggGroups = row true false NO-DEORDER NO-DEORDER
+  before AExpr.Column = row false false NO-DEORDER
+  before AExpr.Literal = row false false NO-DEORDER
+  before AExpr.Element = row false false NO-DEORDER
+  before AExpr.StructField = row false false NO-DEORDER
+  before AExpr.Len = row false false NO-DEORDER
+  before AExpr.BinaryExpr = row true false NO-DEORDER
+  before AExpr.Ternary = row true true NO-DEORDER  -- truthy, falsy, predicate
+  before AExpr.Cast = row false false allow
+  before AExpr.Explode = row false false allow
+  before AExpr.Sort = row false false ALLOW-DEORDER  -- an expression's sort never maintains order
+  before AExpr.SortBy = row false false allow
+  before AExpr.Filter = row true false NO-DEORDER
+  before AExpr.Gather = row true false NO-DEORDER
+  before AExpr.Slice = row false true NO-DEORDER  -- offset, length, input
+  before AExpr.Eval = row true false NO-DEORDER
+  before AExpr.StructEval = row true false NO-DEORDER
+  before AExpr.Over = row true false NO-DEORDER
+  before AExpr.Rolling = row true false NO-DEORDER
+  before AExpr.MinBy = row true false NO-DEORDER
+  before AExpr.Function = row true false NO-DEORDER
+  before AExpr.AnonymousAgg = row true false NO-DEORDER
+  before AExpr.First = row true false NO-DEORDER
+  before AExpr.Min = row true false ALLOW-DEORDER
+  before AExpr.Implode = row true false (not (yes? (e .option)))  -- allowed unless it maintains order
+  before AExpr.AggGroups = row true false NO-DEORDER
 
 -- the children in the order of the looks
 abbrev pub in-order : Before → List ℕ → List ℕ
@@ -155,19 +153,25 @@ function-output false true input-order = input-order
 function-output true false input-order = INDEPENDENT
 function-output true true input-order = ∅
 
--- what a record does once its children have answered
+-- what a record does once its children have answered. It holds a function, so it is no type of the code
 pub record After : Type 0 where
   pub observes : ObservableOrders  -- handed to internal_observe
   pub again : Bool  -- is the single ordered child looked at once more, in ALLOW_DEORDER?
-  pub answer : ObservableOrders → ObservableOrders  -- from the second look's answer, or else from what was accumulated
+  pub answer : ObservableOrders  -- where no child is looked at again
+  pub answer-again : ObservableOrders → ObservableOrders  -- from the answer of the second look
   pub caches : Bool  -- cache_output!
 
-abbrev pub after-row : ObservableOrders → Bool → (ObservableOrders → ObservableOrders) → Bool → After
-after-row o b f c = record { observes = o; again = b; answer = f; caches = c }
+-- a kind that may look at a child again
+abbrev pub twice : ObservableOrders → Bool → ObservableOrders → (ObservableOrders → ObservableOrders) → Bool → After
+twice o b a f c = record { observes = o; again = b; answer = a; answer-again = f; caches = c }
 
--- a kind that observes nothing, looks at no child again and caches nothing
+-- a kind that looks at no child again
+abbrev pub once : ObservableOrders → ObservableOrders → Bool → After
+once o a c = twice o false a (λ _. a) c
+
+-- and observes nothing and caches nothing
 abbrev pub plain : ObservableOrders → After
-plain o = after-row ∅ false (λ _. o) false
+plain a = once ∅ a false
 
 -- e the record; field struct_field_ordering; os the children's answers, as they were looked at; x their ExprOrderAcc
 module _ (e : Expr) (allow : Bool) (field : ObservableOrders) (os : List ObservableOrders) (x : ExprOrderAcc) where
@@ -181,11 +185,11 @@ module _ (e : Expr) (allow : Bool) (field : ObservableOrders) (os : List Observa
   o₂ = getD os 2 ∅
 
   abbrev pub if-mixed : ObservableOrders → ObservableOrders
-  if-mixed o = if x .saw-mixed-inputs then o else ∅
+  if-mixed o = if x .«saw_mixed_inputs» then o else ∅
 
   -- `else if let Some(node) = acc.single_ordered_node() && ..`
   abbrev pub else-single : Bool → Bool
-  else-single b = not (x .saw-mixed-inputs) && single x && b
+  else-single b = not (x .«saw_mixed_inputs») && single x && b
 
   -- the option of SortBy and Implode: maintain_order; of Gather: returns_scalar; of Eval: Cumulative
   abbrev pub option? : Bool
@@ -194,40 +198,42 @@ module _ (e : Expr) (allow : Bool) (field : ObservableOrders) (os : List Observa
   abbrev pub function-again : Bool
   function-again = single x && not (observes-input-order (e .option)) && (allow || terminates-input-order (e .option))
 
-  --                                       observes    again    answer    caches
+  -- a Function's, from its input_order
+  abbrev pub output-observable : ObservableOrders → ObservableOrders
+  output-observable = function-output (terminates-input-order (e .option)) (non-order-producing (e .option))
+
+  -- once: observes, answer, caches; twice: observes, again, answer, answer-again, caches
   unfoldable pub after : AExpr → After
   after AExpr.Column = plain COLUMN
   after AExpr.Literal = plain (if e .scalar then ∅ else INDEPENDENT)
   after AExpr.Element = plain INDEPENDENT
   after AExpr.StructField = plain field
   after AExpr.Len = plain ∅
-  after AExpr.BinaryExpr = after-row (if-mixed (x .acc)) (else-single allow) (λ i. i) (x .saw-mixed-inputs || else-single allow)
+  after AExpr.BinaryExpr = twice (if-mixed (x .acc)) (else-single allow) (x .acc) (λ i. i) (x .«saw_mixed_inputs» || else-single allow)
   after AExpr.Ternary =
-      after-row (if-mixed (o₀ ∪ o₁)) (else-single allow)
-      (λ i.
-      if else-single allow then (if eqb (x .last-ordered-node) (getD (e .children) 0 0) then ∅ else i)  -- the predicate's order is not the output's
-      else (o₀ ∪ o₁))
-      (x .saw-mixed-inputs || else-single allow)
+      twice (if-mixed (o₀ ∪ o₁)) (else-single allow) (o₀ ∪ o₁)
+      (λ i. if eqb (x .«last_ordered_node») (getD (e .children) 0 0) then ∅ else i)  -- the predicate's order is not the output's
+      (x .«saw_mixed_inputs» || else-single allow)
   after AExpr.Cast = plain o₀
   after AExpr.Explode = plain (o₀ ∪ INDEPENDENT)
   after AExpr.Sort = plain INDEPENDENT
-  after AExpr.SortBy = after-row (if-mixed (x .acc)) false (λ _. if option? then o₀ ∪ INDEPENDENT else INDEPENDENT) false
-  after AExpr.Filter = after-row (if-mixed (x .acc)) (else-single (is-empty o₀ && not (is-empty o₁))) (λ _. o₀) true
-  after AExpr.Gather = after-row o₀ false (λ _. if option? || is-empty o₀ then ∅ else o₁) true
-  after AExpr.Slice = after-row (o₂ ∪ if-mixed (x .acc)) false (λ _. o₂) false
-  after AExpr.Eval = after-row (if option? then o₀ else ∅) false (λ _. if option? then o₀ ∪ INDEPENDENT else o₀) true
-  after AExpr.StructEval = after-row (if-mixed (x .acc)) (else-single allow) (λ i. i) (x .saw-mixed-inputs || else-single allow)
-  after AExpr.Over = after-row (x .acc) false (λ _. x .acc ∪ INDEPENDENT) true
-  after AExpr.Rolling = after-row (x .acc) false (λ _. x .acc ∪ INDEPENDENT) true
-  after AExpr.MinBy = after-row (x .acc) false (λ _. ∅) true
+  after AExpr.SortBy = once (if-mixed (x .acc)) (if option? then o₀ ∪ INDEPENDENT else INDEPENDENT) false
+  after AExpr.Filter = twice (if-mixed (x .acc)) (else-single (is-empty o₀ && not (is-empty o₁))) o₀ (λ _. o₀) true
+  after AExpr.Gather = once o₀ (if option? || is-empty o₀ then ∅ else o₁) true
+  after AExpr.Slice = once (o₂ ∪ if-mixed (x .acc)) o₂ false
+  after AExpr.Eval = once (if option? then o₀ else ∅) (if option? then o₀ ∪ INDEPENDENT else o₀) true
+  after AExpr.StructEval = twice (if-mixed (x .acc)) (else-single allow) (x .acc) (λ i. i) (x .«saw_mixed_inputs» || else-single allow)
+  after AExpr.Over = once (x .acc) (x .acc ∪ INDEPENDENT) true
+  after AExpr.Rolling = once (x .acc) (x .acc ∪ INDEPENDENT) true
+  after AExpr.MinBy = once (x .acc) ∅ true
   after AExpr.Function =
-      after-row ((if observes-input-order (e .option) then x .acc else ∅) ∪ if-mixed (x .acc)) function-again
-      (function-output (terminates-input-order (e .option)) (non-order-producing (e .option))) (x .saw-mixed-inputs || function-again)
-  after AExpr.AnonymousAgg = after-row (x .acc) false (λ _. x .acc ∪ INDEPENDENT) true
-  after AExpr.First = after-row o₀ false (λ _. ∅) true
-  after AExpr.Min = after-row ∅ false (λ _. ∅) true
-  after AExpr.Implode = after-row (if option? then o₀ else ∅) false (λ _. ∅) (not option? || is-empty o₀)
-  after AExpr.AggGroups = after-row o₀ false (λ _. o₀ ∪ INDEPENDENT) true
+      twice ((if observes-input-order (e .option) then x .acc else ∅) ∪ if-mixed (x .acc)) function-again
+      (output-observable (x .acc)) output-observable (x .«saw_mixed_inputs» || function-again)
+  after AExpr.AnonymousAgg = once (x .acc) (x .acc ∪ INDEPENDENT) true
+  after AExpr.First = once o₀ ∅ true
+  after AExpr.Min = once ∅ ∅ true
+  after AExpr.Implode = once (if option? then o₀ else ∅) ∅ (not option? || is-empty o₀)
+  after AExpr.AggGroups = once o₀ (o₀ ∪ INDEPENDENT) true
 
 -- an Implode over nothing ordered no longer maintains order: it is replaced by itself, switched off
 abbrev pub loses-order : Expr → List ObservableOrders → Bool
@@ -257,15 +263,15 @@ look-along rec mode (q ∷ qs) os x s = let (o, s′) = rec mode q s in look-alo
 
 -- the single ordered child once more, or not
 unfoldable pub look-again : Look → Bool → ExprOrderAcc → Eos → ObservableOrders × Eos
-look-again rec true x s = rec ALLOW-DEORDER (x .last-ordered-node) s
+look-again rec true x s = rec ALLOW-DEORDER (x .«last_ordered_node») s
 look-again rec false x s = (x .acc, s)
 
--- along all the children of a record
+-- along all the children of a record: the first look in its own mode, the others in NO_DEORDER
 unfoldable pub look-along-children : Look → Expr → Before → Eos → List ObservableOrders × ExprOrderAcc × Eos
 look-along-children rec e b s =
     let qs = in-order b (e .children) in
     let (os, x, s₁) = look-along rec (b .first) (take 1 qs) [] no-orders s in
-    look-along rec (b .others) (drop 1 qs) os x (enter-struct e os s₁)
+    look-along rec NO-DEORDER (drop 1 qs) os x (enter-struct e os s₁)
 
 -- the end of a look at p, whose record was e, with the answer o
 unfoldable pub look-ended : ℕ → Expr → After → ObservableOrders → ObservableOrders → List ObservableOrders → Eos → Eos
@@ -278,7 +284,8 @@ look-whole rec allow p e b s =
     let (os, x, s₂) = look-along-children rec e b s in
     let v = after e allow field os x (e .kind) in
     let (i, s₃) = look-again rec (v .again) x s₂ in
-    (v .answer i, look-ended p e v (v .answer i) field os s₃)
+    let o = if v .again then v .answer-again i else v .answer in
+    (o, look-ended p e v o field os s₃)
 
 -- by the answer that it gives at once, and by whether the record is replaced
 unfoldable pub look-at : Look → Bool → ℕ → Expr → Before → Eos → Option ObservableOrders → Bool → ObservableOrders × Eos
@@ -300,4 +307,4 @@ unfoldable pub simplify-projected-exprs : List ℕ → Bool → Eos → Observab
 simplify-projected-exprs ae-nodes allow-deordering-top s =
     let rec : Look = look (length (s .expr-arena)) in
     let (os, x, s₁) = look-along rec NO-DEORDER ae-nodes [] no-orders s in
-    look-again rec (single x && allow-deordering-top) x (internal-observe (if x .saw-mixed-inputs then x .acc else ∅) s₁)
+    look-again rec (single x && allow-deordering-top) x (internal-observe (if x .«saw_mixed_inputs» then x .acc else ∅) s₁)

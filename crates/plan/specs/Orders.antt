@@ -1,8 +1,9 @@
--- ObservableOrders and ExprOrderAcc of expr.rs.
+-- ObservableOrders and ExprOrderAcc of expr.rs: the code's own types (plan/src/orders.rt).
 use Prim.Native.Nat.{ℕ, _+_}
 use mathlib.Core.Bool.{Bool, true, false, _&&_, _||_, not}
 use lib.Dec.{eqb}
 use Rattle.plan.specs.declared.orders.ObservableOrders.{ObservableOrders}
+use Rattle.plan.specs.declared.orders.ExprOrderAcc.{ExprOrderAcc}
 use Rattle.plan.specs.Lists.{if_then_else_}
 
 -- a set of COLUMN and INDEPENDENT
@@ -22,25 +23,19 @@ x ∪ y = record { column = x .column || y .column; independent = x .independent
 abbrev pub is-empty : ObservableOrders → Bool
 is-empty x = not (x .column || x .independent)
 
-pub record ExprOrderAcc : Type 0 where
-  pub acc : ObservableOrders
-  pub saw-mixed-inputs : Bool
-  pub num-ordered-inputs : ℕ
-  pub last-ordered-node : ℕ  -- of no account while there is none
-
 abbrev pub no-orders : ExprOrderAcc
-no-orders = record { acc = ∅; saw-mixed-inputs = false; num-ordered-inputs = 0; last-ordered-node = 0 }
+no-orders = record { acc = ∅; «saw_mixed_inputs» = false; «num_ordered_inputs» = 0; «last_ordered_node» = 0 }
 
 unfoldable pub add : ExprOrderAcc → ObservableOrders → ℕ → ExprOrderAcc
 add x right node =
     record {
       acc = x .acc ∪ right;
-      saw-mixed-inputs =
-          x .saw-mixed-inputs || (x .acc .independent && not (is-empty right)) || (right .independent && not (is-empty (x .acc)));
-      num-ordered-inputs = if is-empty right then x .num-ordered-inputs else x .num-ordered-inputs + 1;
-      last-ordered-node = if is-empty right then x .last-ordered-node else node;
+      «saw_mixed_inputs» =
+          x .«saw_mixed_inputs» || (x .acc .independent && not (is-empty right)) || (right .independent && not (is-empty (x .acc)));
+      «num_ordered_inputs» = if is-empty right then x .«num_ordered_inputs» else x .«num_ordered_inputs» + 1;
+      «last_ordered_node» = if is-empty right then x .«last_ordered_node» else node;
     }
 
--- is there a single_ordered_node? It is last-ordered-node
+-- is there a single_ordered_node? It is the last_ordered_node
 abbrev pub single : ExprOrderAcc → Bool
-single x = eqb (x .num-ordered-inputs) 1
+single x = eqb (x .«num_ordered_inputs») 1

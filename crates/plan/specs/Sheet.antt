@@ -27,8 +27,8 @@ pub record Step : Type 0 where
   pub b : ℕ
   pub c : ℕ
   pub inputs : List ℕ
-  pub exprs : List ℕ  -- the n2 list: expressions, keys, left keys
-  pub aggs : List ℕ  -- the n3 list: aggs, right keys
+  pub exprs : List ℕ  -- the n2 list: expressions; a GroupBy's keys, a Join's left keys
+  pub aggs : List ℕ  -- the n3 list: a GroupBy's aggs, a Join's right keys; no other step has one
 
 pub record Sheet : Type 0 where
   pub exprs : List Expr

@@ -54,6 +54,10 @@ ruled s in₀ later out = record { options = s; loosened = record { in0 = in₀;
 abbrev pub unmaintained-if : Bool → Options → Options
 unmaintained-if l s = record { kind = s .kind; a = if l then 0 else s .a; b = s .b; c = s .c; n2 = s .n2 }
 
+-- is it an HStack that keeps columns of its input?
+abbrev pub is-hstack : Options → Bool
+is-hstack s = same-ir (s .kind) IR.HStack && not (eqb (s .a) (s .n2))
+
 -- K::First | K::Last
 abbrev pub first-or-last : UniqueKeepStrategy → Bool
 first-or-last UniqueKeepStrategy.First = true
@@ -79,7 +83,9 @@ without-right MaintainOrderJoin.RightLeft = MaintainOrderJoin.Left
 
 -- The rules of a visit that removes nothing --------------------------------------------------------------------------------
 
--- A name for each place that loosens an edge, in the Rust's order: when it does. s are the step's options, e its edges, o what its looks observed.
+-- A name for each test under which edges are loosened, in the Rust's order. Of the 33 places of the Rust that loosen an edge 32 stand
+-- under these 24 names, since a test may loosen several edges: `as-of` all three of AsOf. The other is the edge into a removed Sort,
+-- in `relinked`. s are the step's options, e its edges, o what its looks observed.
 module _ (s : Options) (e : Around) (o : Observable) where
   abbrev pub maintains-order : Bool
   maintains-order = yes? (s .a)
@@ -87,19 +93,16 @@ module _ (s : Options) (e : Around) (o : Observable) where
   abbrev pub has-slice : Bool
   has-slice = yes? (s .b)
 
-  -- Select, HStack: is it an HStack that keeps columns of its input?
-  abbrev pub is-hstack : Bool
-  is-hstack = same-ir (s .kind) IR.HStack && not (eqb (s .a) (s .n2))
-
+  -- Select, HStack
   abbrev pub input-order-observe : Bool
   input-order-observe =
-      ((o .exprs .column || is-hstack) && not (e .out)) || (is-hstack && o .exprs .independent) || o .internal .column
+      ((o .exprs .column || is-hstack s) && not (e .out)) || (is-hstack s && o .exprs .independent) || o .internal .column
 
   abbrev pub select-in : Bool
   select-in = not input-order-observe
 
   abbrev pub select-out : Bool
-  select-out = not (o .exprs .independent) && ((e .in0 || select-in) || not (is-hstack || o .exprs .column))
+  select-out = not (o .exprs .independent) && ((e .in0 || select-in) || not (is-hstack s || o .exprs .column))
 
   -- Sort, kept
   abbrev pub sort-in : Bool
@@ -187,6 +190,10 @@ module _ (s : Options) (e : Around) (o : Observable) where
   abbrev pub unordered-union : Options
   unordered-union = record { kind = IR.Union; a = 0; b = 0; c = 0; n2 = s .n2 }
 
+  -- HConcat, Slice, ExtContext: all out-edges
+  abbrev pub concat-outs : Bool
+  concat-outs = e .ins
+
   -- SimpleProjection: both
   abbrev pub projection-both : Bool
   projection-both = e .in0 || e .out
@@ -240,9 +247,9 @@ module _ (s : Options) (e : Around) (o : Observable) where
     arm IR.Union = ruled (unmaintained-if union-all s) union-all union-all union-all
     arm IR.MergeSorted = ruled (if merge-sorted-all then unordered-union else s) merge-sorted-all merge-sorted-all merge-sorted-all
     arm IR.MapFunction = ruled s map-in false map-out
-    arm IR.HConcat = ruled s false false (e .ins)
-    arm IR.Slice = ruled s false false (e .ins)
-    arm IR.ExtContext = ruled s false false (e .ins)
+    arm IR.HConcat = ruled s false false concat-outs
+    arm IR.Slice = ruled s false false concat-outs
+    arm IR.ExtContext = ruled s false false concat-outs
     arm IR.SimpleProjection = ruled s projection-both false projection-both
     arm IR.Cache = ruled s cache-in false cache-outs
 
@@ -260,6 +267,10 @@ join-fails s o = same-ir (s .kind) IR.Join && not (elementwise o)
 
 abbrev pub sink-fails : Options → Observable → Bool
 sink-fails s o = same-ir (s .kind) IR.Sink && yes? (s .b) && not (elementwise o)
+
+-- 10, 11, or 0 for neither
+unfoldable pub refusal-number : Options → Observable → ℕ
+refusal-number s o = if join-fails s o then 10 else if sink-fails s o then 11 else 0
 
 -- The edges of a step ------------------------------------------------------------------------------------------------------
 
@@ -333,15 +344,15 @@ with-aggs qs s = record { kind = s .kind; a = s .a; b = s .b; c = s .c; inputs =
 -- allow_deordering_top of the n2 list; of the n3 list it is false
 unfoldable pub allow-deordering-top : Options → Around → Bool
 allow-deordering-top s e =
-    if same-ir (s .kind) IR.Select then e .out
-    else if same-ir (s .kind) IR.HStack then e .out && (e .in0 || eqb (s .a) (s .n2))
+    if same-ir (s .kind) IR.Select || same-ir (s .kind) IR.HStack then e .out && (e .in0 || not (is-hstack s))
     else if same-ir (s .kind) IR.GroupBy then e .in0 && not (yes? (s .a))
     else false
 
--- the looks of a visit: the step with its Implodes, the states before the n2 list, between the two lists and after the n3 list,
--- and what was observed. A step that has no expressions has empty lists
+-- the looks of a visit: the step with its Implodes, its edges, the states before the n2 list, between the two lists and after the
+-- n3 list, and what was observed. A step that has no expressions has empty lists
 pub record Looked : Type 0 where
   pub step : Step
+  pub around : Around
   pub start : Eos
   pub between : Eos
   pub end : Eos
@@ -360,6 +371,7 @@ looks-of s e es tally =
     let (aggs-observable, end) = simplify-projected-exprs aggs false between in
     record {
       step = with-aggs aggs s;
+      around = e;
       start = start;
       between = between;
       end = end;
@@ -414,35 +426,28 @@ goes n r =
 unfoldable pub looked-in : ℕ → Run → Looked
 looked-in n r = looks-of (step-at (r .steps) n) (around n (r .edges)) (r .arena) (r .tally)
 
--- what the step's rule makes of what was observed
-unfoldable pub ruling : ℕ → Run → Ruled
-ruling n r = let l = looked-in n r in rule rust-functions (options-of (l .step)) (around n (r .edges)) (l .observable)
+-- what the step's rule makes of what the looks l observed
+unfoldable pub ruling-of : Looked → Ruled
+ruling-of l = rule rust-functions (options-of (l .step)) (l .around) (l .observable)
 
--- and so of the step
-abbrev pub ruled-step : ℕ → Run → Step
-ruled-step n r = with-options (ruling n r .options) (looked-in n r .step)
-
-unfoldable pub settled : ℕ → Run → Run
-settled n r =
+-- and so the run after them
+unfoldable pub settled-by : Looked → ℕ → Run → Run
+settled-by l n r =
     record {
-      arena = looked-in n r .end .expr-arena;
-      steps = set (r .steps) n (ruled-step n r);
-      edges = map (loosened n (ruling n r .loosened)) (r .edges);
+      arena = l .end .expr-arena;
+      steps = set (r .steps) n (with-options (ruling-of l .options) (l .step));
+      edges = map (loosened n (ruling-of l .loosened)) (r .edges);
       back = n ∷ r .back;
       removed = r .removed;
-      tally = visit-more (looked-in n r .end .tally);
+      tally = visit-more (l .end .tally);
     }
-
--- 10, 11, or 0 for neither
-unfoldable pub refusal-in : ℕ → Run → ℕ
-refusal-in n r =
-    let l = looked-in n r in
-    let s = options-of (l .step) in
-    if join-fails s (l .observable) then 10 else if sink-fails s (l .observable) then 11 else 0
 
 -- a visit that removes nothing
 unfoldable pub settle : ℕ → Run → Outcome Run
-settle n r = if eqb (refusal-in n r) 0 then done (settled n r) else refused (refusal-in n r)
+settle n r =
+    let l = looked-in n r in
+    let k = refusal-number (options-of (l .step)) (l .observable) in
+    if eqb k 0 then done (settled-by l n r) else refused k
 
 unfoldable pub simplify-ir-node-orders : ℕ → Run → Outcome Run
 simplify-ir-node-orders n r = if goes n r then done (unlink-node n r) else settle n r

@@ -6,7 +6,8 @@ pub mod function_flags; // function_flags.rt: FunctionFlags
 pub mod function_ir; // function_ir.rt: FunctionIR
 pub mod ir; // ir.rt: IR
 pub mod join; // join.rt: JoinType, MaintainOrderJoin
-pub mod orders; // orders.rt: ObservableOrders
+pub mod looks; // looks.rt: Before, what a look reads before it goes along the children
+pub mod orders; // orders.rt: ObservableOrders, ExprOrderAcc
 pub mod rules; // rules.rt: Options, Around, Observable, Loosened, Ruled: what a rule reads and gives
 pub mod sizes; // sizes.rt: the length of an array, as a fact for proofs
 pub mod tally; // tally.rt: Tally

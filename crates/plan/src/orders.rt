@@ -1,6 +1,7 @@
-// The orders that an expression lets be observed: ObservableOrders of expr.rs.
+// The orders that an expression lets be observed, and those of several accumulated: ObservableOrders and ExprOrderAcc of expr.rs.
 ghost use mathlib.Core.Path.{_≡_};
-ghost use Rattle.plan.specs.Orders.{_∪_, is-empty};
+ghost use Prim.Native.Nat.{_<_};
+ghost use Rattle.plan.specs.Orders.{_∪_, is-empty, add};
 
 pub struct ObservableOrders {
     // Ordering of a column can be observed.
@@ -10,6 +11,21 @@ pub struct ObservableOrders {
 }
 
 impl ObservableOrders {
+    pub const EMPTY: ObservableOrders = ObservableOrders {
+        column: false,
+        independent: false,
+    };
+
+    pub const COLUMN: ObservableOrders = ObservableOrders {
+        column: true,
+        independent: false,
+    };
+
+    pub const INDEPENDENT: ObservableOrders = ObservableOrders {
+        column: false,
+        independent: true,
+    };
+
     pub fn is_empty(self) -> bool
         ensures { λ r. ⌜ r ≡ is-empty self ⌝ }
     {
@@ -22,6 +38,42 @@ impl ObservableOrders {
         ObservableOrders {
             column: self.column | other.column,
             independent: self.independent | other.independent,
+        }
+    }
+}
+
+// The order accumulator.
+pub struct ExprOrderAcc {
+    pub acc: ObservableOrders,
+    // Were expressions of different orders projected beside each other?
+    pub saw_mixed_inputs: bool,
+    pub num_ordered_inputs: u8,
+    // Of no account while there is none.
+    pub last_ordered_node: u8,
+}
+
+impl ExprOrderAcc {
+    pub fn add(self, right: ObservableOrders, right_node: u8) -> ExprOrderAcc
+        requires { ⌜ self .«num_ordered_inputs» < 255 ⌝ }
+        ensures { λ r. ⌜ r ≡ add self right «right_node» ⌝ }
+    {
+        let acc = self.acc;
+        let empty = right.is_empty();
+        let mixed = (self.saw_mixed_inputs | (acc.independent & !empty))
+            | (right.independent & !acc.is_empty());
+        if empty {
+            return ExprOrderAcc {
+                acc: acc.union(right),
+                saw_mixed_inputs: mixed,
+                num_ordered_inputs: self.num_ordered_inputs,
+                last_ordered_node: self.last_ordered_node,
+            };
+        }
+        ExprOrderAcc {
+            acc: acc.union(right),
+            saw_mixed_inputs: mixed,
+            num_ordered_inputs: self.num_ordered_inputs + 1,
+            last_ordered_node: right_node,
         }
     }
 }

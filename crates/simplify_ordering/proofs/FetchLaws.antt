@@ -14,27 +14,29 @@ use Rattle.plan.specs.Visit.{Run}
 use Rattle.plan.specs.Walks.{walk, begin, down, up, updated, simplify-and-fetch-orderings}
 use Rattle.claims.specs.WellFormed.{WellFormed}
 use Rattle.claims.proofs.Ends.{walks-alone}
-use Rattle.claims.proofs.Visitables.{Going, going-begin, going-half}
+use Rattle.claims.proofs.Visitables.{visitable-down, visitable-up}
 use Rattle.plan.specs.declared.tally.Tally.{Tally}
+use Rattle.claims.specs.Visitable.{All-visitable}
 use Rattle.simplify_ordering.specs.declared.walks.Orderings.{Orderings}
 use Rattle.simplify_ordering.specs.declared.walks.Walked.{Walked}
 use Rattle.simplify_ordering.specs.Run.{run-of}
-use Rattle.simplify_ordering.specs.Walks.{Walk-asks, Walk-gives, sheet-of, Fetch-asks, Down-gives, Answers, stopped, ended, Orderings-are, Orderings-held}
+use Rattle.simplify_ordering.specs.Walks.{Walk-asks, walk-stopped, Walk-gives, sheet-of, stopped-by, fetch-stopped, Fetch-asks, Down-gives, Answers, stopped, ended, Orderings-are, Orderings-held}
 
 module _ (sh : Sheet) (wf : WellFormed sh) (before : List ℕ → List ℕ → Run) (begins : before [] [] ≡ begin sh) (ns : List ℕ) (places : ns ≡ graph (sh .steps) .0) where
   pub down-asks : Walk-asks ns before
   down-asks =
       record {
-        most = 288;
-        few = omega arith;
         back = [];
         removed = [];
-        going = subst (λ (x : List ℕ). Going 288 x (before [] [])) (sym places) (subst (Going 288 (graph (sh .steps) .0)) (sym begins) (going-begin sh wf));
+        visitable = rw (places, begins) (visitable-down sh wf);
       }
 
   down-is : walk ns (before [] []) ≡ down sh
   unfolding down
   down-is = rw (places, begins)
+
+  stop-is : walk-stopped ns (before [] []) ≡ walk-stopped (graph (sh .steps) .0) (begin sh)
+  stop-is = rw (places, begins)
 
   -- the downward walk ended at r
   pub down-given : (half : List ℕ → List ℕ → Run) (w r : Walked) (pushed : List ℕ) → Walk-gives ns before half w r pushed → w .removed ≡ 0
@@ -45,12 +47,17 @@ module _ (sh : Sheet) (wf : WellFormed sh) (before : List ℕ → List ℕ → R
         count = omega (arith, none, g .count);
         is = λ z. sym down-is ∙ g .is z [] [] ∙ ap (λ (x : List ℕ). done (half x (g .gone ++ []))) (append-nil pushed) ∙ ap (λ (x : List ℕ). done (half pushed x)) (append-nil (g .gone));
         refusal = λ k. sym down-is ∙ g .refusal k [] [];
+        stop = λ k. sym stop-is ∙ g .stop k [] [] ∙ ap (λ (x : List ℕ). half x (g .gone ++ [])) (append-nil pushed) ∙ ap (λ (x : List ℕ). half pushed x) (append-nil (g .gone));
       }
 
 module _ (sh : Sheet) (half : List ℕ → List ℕ → Run) (r : Walked) (pushed : List ℕ) (g : Down-gives sh half r pushed) where
   pub down-refused : r .refused ≢ 0 → simplify-and-fetch-orderings sh ≡ refused (r .refused)
   unfolding simplify-and-fetch-orderings _then_
   down-refused k = ap (λ (o : Outcome Run). o then up then λ q. done (updated sh q)) (g .refusal k)
+
+  pub down-stopped : r .refused ≢ 0 → half pushed (g .gone) ≡ fetch-stopped sh
+  unfolding fetch-stopped
+  down-stopped k = sym (ap (stopped-by sh) (g .refusal k) ∙ g .stop k)
 
   module _ (wf : WellFormed sh) (backs : (b d : List ℕ) → half b d .back ≡ b) (z : r .refused ≡ 0) where
     abbrev h : Run
@@ -59,11 +66,9 @@ module _ (sh : Sheet) (half : List ℕ → List ℕ → Run) (r : Walked) (pushe
     pub up-asks : Walk-asks pushed half
     up-asks =
         record {
-          most = 576;
-          few = omega arith;
           back = pushed;
           removed = g .gone;
-          going = subst (λ (x : List ℕ). Going 576 x h) (backs pushed (g .gone)) (going-half sh wf h (g .is z));
+          visitable = subst (λ (x : List ℕ). All-visitable x h) (backs pushed (g .gone)) (visitable-up sh wf h (g .is z));
         }
 
     -- and the upward walk at r′. `after` gives the run from the arena's length, the two lists and the tally
@@ -84,10 +89,17 @@ module _ (sh : Sheet) (half : List ℕ → List ℕ → Run) (r : Walked) (pushe
             omega (arith, g .count, g′ .count, length-append (g′ .gone) (g .gone)),
           )
 
--- what the upward walk leaves, if it came to its end
-pub answer-held : (held : ℕ → Type 0) (w : Walked) {a : Orderings} → held (w .exprs) → Answers w a → Orderings-held held a
-answer-held held w h (stopped k e) = subst (Orderings-held held) (sym e) tt
-answer-held held w h (ended z e) = subst (Orderings-held held) (sym e) h
+      up-stopped : r′ .refused ≢ 0 → after (r′ .exprs) (pushed′ ++ pushed) (g′ .gone ++ g .gone) (r′ .tally) ≡ fetch-stopped sh
+      unfolding fetch-stopped
+      up-stopped k =
+          sym (ap (stopped-by sh) (g .is z) ∙ ap (λ (x : List ℕ). walk-stopped x h) (backs pushed (g .gone)) ∙ g′ .stop k pushed (g .gone))
+
+      -- what the upward walk leaves
+      pub answer-held : (held : ℕ → Type 0) → held (r′ .exprs) → {a : Orderings} → Answers r′ a → Orderings-held held (fetch-stopped sh) after a
+      answer-held held there (stopped k e) =
+          subst (Orderings-held held (fetch-stopped sh) after) (sym e)
+          (record { exprs = r′ .exprs; back = pushed′ ++ pushed; removed = g′ .gone ++ g .gone; tally = r′ .tally; is = up-stopped k; is-held = there })
+      answer-held held there (ended z e) = subst (Orderings-held held (fetch-stopped sh) after) (sym e) there
 
 -- The places stored in the array from `at` on ---------------------------------------------------------------------------------------------
 
@@ -98,7 +110,7 @@ to-the-end back at size = take-all (288 - at) (drop at back) (omega (arith, size
 pub set-out : {ns ns′ : List ℕ} {before after : List ℕ → List ℕ → Run} {w w′ r : Walked} {pushed : List ℕ} → ns ≡ ns′ → w .removed ≡ w′ .removed
     → Walk-gives ns before after w r pushed → Walk-gives ns′ before after w′ r pushed
 set-out {before = before} {after = after} {w = w} {w′ = w′} {r = r} {pushed = pushed} e i g =
-    subst (λ (x : List ℕ). Walk-gives x before after w′ r pushed) e (record { gone = g .gone; count = omega (arith, i, g .count); is = g .is; refusal = g .refusal })
+    subst (λ (x : List ℕ). Walk-gives x before after w′ r pushed) e (record { gone = g .gone; count = omega (arith, i, g .count); is = g .is; refusal = g .refusal; stop = g .stop })
 
 -- The run as the walks set out --------------------------------------------------------------------------------------------------------------
 

@@ -1,5 +1,5 @@
 -- A visit as the definition has it, from what the code of its stages gives.
-use mathlib.Core.Path.{_≡_, ap, _∙_}
+use mathlib.Core.Path.{_≡_, refl, ap, _∙_}
 use mathlib.Core.Logic.{_≢_}
 use Prim.Native.Nat.{ℕ, _+_, _<_, _^_}
 use native.Mathlib.Omega.{arith}
@@ -16,7 +16,8 @@ use Rattle.plan.specs.FunctionIR.{rust-functions}
 use Rattle.plan.specs.Lists.{yes?}
 use Rattle.plan.specs.Sheet.{Expr, Step, no-step, refused, done, step-at}
 use Rattle.plan.specs.Graph.{Edge}
-use Rattle.plan.specs.Visit.{Run, Looked, around, options-of, with-options, looks-of, looked-in, rule, ruling, refusal-in, settled, settle, goes, unlink-node, simplify-ir-node-orders, no-edge}
+use Rattle.plan.specs.Visit.{Run, Looked, around, options-of, with-options, looks-of, looked-in, rule, settle, goes, unlink-node, simplify-ir-node-orders, no-edge, refusal-number, ruling-of, settled-by}
+use Rattle.plan.proofs.Settling.{refusal-in}
 use Rattle.plan.specs.Visit as Visit
 use Rattle.storage.proofs.Laws.{length-table, table-at, length-steps}
 use Rattle.plan.specs.declared.tally.Tally.{Tally}
@@ -26,7 +27,7 @@ use Rattle.plan.specs.declared.rules.Around.{Around}
 use Rattle.plan.specs.declared.rules.Observable.{Observable}
 use Rattle.node_rules.specs.Held.{Unlinked, Unlinkable, Edges-held, held-edge, held-edges}
 use Rattle.simplify_ordering.specs.Looks.{Listed}
-use Rattle.simplify_ordering.specs.Run.{run-of, Run-held, refusal-number, Ruled-by, Settle-asks}
+use Rattle.simplify_ordering.specs.Run.{run-of, Run-held, Ruled-by, stopped-at, Settle-asks}
 use Rattle.node_rules.proofs.StepLaws.{its-n1}
 use Rattle.claims.proofs.Stays.{goes-sort}
 use Rattle.plan.proofs.Counts.{true-of}
@@ -45,6 +46,10 @@ module _ (es : List Expr) (ps : List Step) (ds : List Edge) (n : ℕ) (tally : T
   abbrev l : Looked
   l = looks-of (step-at ps n) (around n ds) es tally
 
+  its-edges : l .around ≡ around n ds
+  unfolding looks-of
+  its-edges = refl
+
   -- ps₁ are the steps after the looks
   module _ (ps₁ : List Step) (steps-are : ps₁ ≡ set ps n (l .step)) where
     step-now : step-at ps₁ n ≡ l .step
@@ -54,10 +59,16 @@ module _ (es : List Expr) (ps : List Step) (ds : List Edge) (n : ℕ) (tally : T
     unfolding looks-of
     options-now = rw step-now
 
+    -- what the looks leave
+    pub stops : (es₂ : List Expr) (tally₂ : Tally) → es₂ ≡ l .end .expr-arena → tally₂ ≡ l .end .tally → (back removed : List ℕ)
+        → stopped-at n (state es ps ds back removed tally) ≡ state es₂ ps₁ ds back removed tally₂
+    unfolding looked-in
+    stops es₂ tally₂ arena-is tally-is back removed = rw (steps-are, arena-is, tally-is)
+
     -- o is what was observed, k the number that the code gave
     module _ (o : Observable) (seen : o ≡ l .observable) (k : ℕ) (number : k ≡ refusal-number (options-of (step-at ps₁ n)) o) (back removed : List ℕ) where
       number-is : k ≡ refusal-in n (state es ps ds back removed tally)
-      unfolding refusal-in looked-in
+      unfolding looked-in
       number-is = number ∙ rw (step-now, seen)
 
       pub settle-refused : k ≢ 0 → settle n (state es ps ds back removed tally) ≡ refused k
@@ -67,14 +78,14 @@ module _ (es : List Expr) (ps : List Step) (ds : List Edge) (n : ℕ) (tally : T
       pub settle-done : k ≡ 0 → (ps₂ : List Step) (ds₂ : List Edge) (es₂ : List Expr) (tally₂ : Tally) → es₂ ≡ l .end .expr-arena → tally₂ ≡ visit-more (l .end .tally)
           → Ruled-by n (around n ds) o ps₁ ds ps₂ ds₂
           → settle n (state es ps ds back removed tally) ≡ done (state es₂ ps₂ ds₂ (n ∷ back) removed tally₂)
-      unfolding settle settled ruling looked-in
+      unfolding settle settled-by ruling-of looked-in
       settle-done h ps₂ ds₂ es₂ tally₂ arena-is tally-is ruled =
           let then : Step → Step = λ s. with-options (rule rust-functions (options-of s) (around n ds) o .options) s in
-          let steps-then : ps₂ ≡ set ps n (with-options (rule rust-functions (options-of (l .step)) (around n ds) (l .observable) .options) (l .step)) =
+          let steps-then : ps₂ ≡ set ps n (with-options (rule rust-functions (options-of (l .step)) (l .around) (l .observable) .options) (l .step)) =
           ruled .steps ∙ ap (λ (x : List Step). set x n (then (step-at ps₁ n))) steps-are
-          ∙ set-set ps n (l .step) (then (step-at ps₁ n)) ∙ rw (step-now, seen) in
-          let edges-then : ds₂ ≡ map (Visit.loosened n (rule rust-functions (options-of (l .step)) (around n ds) (l .observable) .loosened)) ds =
-          ruled .edges ∙ rw (step-now, seen) in
+          ∙ set-set ps n (l .step) (then (step-at ps₁ n)) ∙ rw (step-now, seen, its-edges) in
+          let edges-then : ds₂ ≡ map (Visit.loosened n (rule rust-functions (options-of (l .step)) (l .around) (l .observable) .loosened)) ds =
+          ruled .edges ∙ rw (step-now, seen, its-edges) in
           rw (← number-is, eq-eqb k 0 h, steps-then, edges-then, arena-is, tally-is)
 
 -- what the code's test reads, of its own records

@@ -4,19 +4,20 @@ use mathlib.Core.Logic.{_≢_}
 use Prim.Native.Nat.{ℕ, suc, _+_, _-_, _≤_, _<_}
 use native.Mathlib.Omega.{arith}
 use mathlib.Core.Bool.{Bool, true, false}
-use mathlib.Core.List.{List, [], _∷_, _++_}
+use mathlib.Core.List.{List, [], _∷_, _++_, List·Memᴰ, List·Memᴰ·head, List·Memᴰ·tail}
 use lib.Dec.{eqb}
 use lib.ListN.{length, getD, set, take, drop, length-set, drop-of-length-le}
 use lib.Seq.{drop-cons, getD-set-same, drop-set-lt}
 use Rattle.plan.specs.Lists.{if_then_else_}
 use Rattle.plan.specs.Sheet.{Outcome, refused, done, _then_}
-use Rattle.plan.specs.Visit.{Run, goes, settle, refusal-in, unlink-node, looked-in, simplify-ir-node-orders}
-use Rattle.plan.specs.Visit as Visit
-use Rattle.plan.specs.Walks.{walk}
-use Rattle.claims.specs.Visitable.{Visitable}
-use Rattle.claims.proofs.Visitables.{Going, going-visit, going-visitable}
+use Rattle.plan.specs.Visit.{Run, goes, settle, unlink-node, looked-in, simplify-ir-node-orders}
+use Rattle.plan.proofs.Settling.{refusal-in}
+use Rattle.plan.proofs.Settling as Settling
+use Rattle.plan.specs.Walks.{walk, trace, then-all}
+use Rattle.claims.specs.Visitable.{Visitable, All-visitable}
 use Rattle.simplify_ordering.specs.declared.walks.Walked.{Walked}
-use Rattle.simplify_ordering.specs.Walks.{Placed, settled, removed, refused-at, Walk-asks, Walk-gives}
+use Rattle.simplify_ordering.specs.Walks.{Placed, settled, removed, refused-at, Walk-asks, or-stopped, walk-stopped, Walk-gives}
+use Rattle.simplify_ordering.specs.Run.{stopped-at}
 
 -- A refusal's number is not 0 ---------------------------------------------------------------------------------------------------------
 
@@ -39,7 +40,7 @@ unfolding simplify-ir-node-orders settle
 refused-number n r k e zero = by (goes n r) (eqb (refusal-in n r) 0) refl e
   where
     by : (a b : Bool) → eqb (refusal-in n r) 0 ≡ b
-        → (if a then done (unlink-node n r) else if b then done (Visit.settled n r) else refused (refusal-in n r)) ≡ refused k
+        → (if a then done (unlink-node n r) else if b then done (Settling.settled n r) else refused (refusal-in n r)) ≡ refused k
         → ⊥
     by true b i e = not-refused e
     by false true i e = not-refused e
@@ -68,6 +69,16 @@ visitable-apart n r r′ a s e l k =
       input = rw (s, e) (k .input);
     }
 
+-- the visits after the first
+visitable-next : (n : ℕ) (rest : List ℕ) (r r′ : Run) → All-visitable (n ∷ rest) r → simplify-ir-node-orders n r ≡ done r′ → All-visitable rest r′
+unfolding trace
+visitable-next n rest r r′ v e m q i =
+    v m q (List·Memᴰ·tail (subst (λ (o : Outcome Run). List·Memᴰ (m, q) (then-all o (λ y. trace rest y))) (sym e) i))
+
+visitable-first : (n : ℕ) (rest : List ℕ) (r : Run) → All-visitable (n ∷ rest) r → Visitable n r
+unfolding trace
+visitable-first n rest r v = v n r (List·Memᴰ·head refl)
+
 -- ns are all places of the walk, `rest` those that are left; w is the walk as it set out, r as it is now, and `pushed` the places
 -- stored to go back along
 pub record Walking (ns rest : List ℕ) (before after : List ℕ → List ℕ → Run) (w r : Walked) (pushed : List ℕ) : Type 0 where
@@ -75,11 +86,11 @@ pub record Walking (ns rest : List ℕ) (before after : List ℕ → List ℕ �
   pub count : r .removed ≡ w .removed + length gone
   pub on : r .refused ≡ 0 → (b d : List ℕ) → walk ns (before b d) ≡ walk rest (after (pushed ++ b) (gone ++ d))
   pub refusal : r .refused ≢ 0 → (b d : List ℕ) → walk ns (before b d) ≡ refused (r .refused)
-  pub most : ℕ
-  pub few : most ≤ 576
+  pub on-stopped : r .refused ≡ 0 → (b d : List ℕ) → walk-stopped ns (before b d) ≡ walk-stopped rest (after (pushed ++ b) (gone ++ d))
+  pub stop : r .refused ≢ 0 → (b d : List ℕ) → walk-stopped ns (before b d) ≡ after (pushed ++ b) (gone ++ d)
   pub back : List ℕ
   pub removed : List ℕ
-  pub going : r .refused ≡ 0 → Going most rest (after (pushed ++ back) (gone ++ removed))
+  pub visitable : r .refused ≡ 0 → All-visitable rest (after (pushed ++ back) (gone ++ removed))
 
 module _ (ns : List ℕ) (before : List ℕ → List ℕ → Run) (w : Walked) where
   pub walking-none : Walk-asks ns before → w .refused ≡ 0 → Walking ns ns before before w w []
@@ -89,29 +100,35 @@ module _ (ns : List ℕ) (before : List ℕ → List ℕ → Run) (w : Walked) w
         count = omega arith;
         on = λ _ b d. refl;
         refusal = λ k b d. absurd (k z);
-        most = a .most;
-        few = a .few;
+        on-stopped = λ _ b d. refl;
+        stop = λ k b d. absurd (k z);
         back = a .back;
         removed = a .removed;
-        going = λ _. a .going;
+        visitable = λ _. a .visitable;
       }
 
   module _ (after : List ℕ → List ℕ → Run) (r : Walked) (pushed : List ℕ) where
     pub walking-stops : (rest : List ℕ) → Walking ns rest before after w r pushed → r .refused ≢ 0 → Walk-gives ns before after w r pushed
-    walking-stops rest g k = record { gone = g .gone; count = g .count; is = λ z. absurd (k z); refusal = g .refusal }
+    walking-stops rest g k = record { gone = g .gone; count = g .count; is = λ z. absurd (k z); refusal = g .refusal; stop = g .stop }
 
     pub walking-ends : Walking ns [] before after w r pushed → Walk-gives ns before after w r pushed
     unfolding walk
-    walking-ends g = record { gone = g .gone; count = g .count; is = g .on; refusal = g .refusal }
+    walking-ends g = record { gone = g .gone; count = g .count; is = g .on; refusal = g .refusal; stop = g .stop }
 
     module _ (n : ℕ) (rest : List ℕ) (g : Walking ns (n ∷ rest) before after w r pushed) (z : r .refused ≡ 0) where
       pub place-visitable : Visitable n (after (pushed ++ g .back) (g .gone ++ g .removed))
-      place-visitable = going-visitable (g .most) n rest (after (pushed ++ g .back) (g .gone ++ g .removed)) (g .few) (g .going z)
+      place-visitable = visitable-first n rest (after (pushed ++ g .back) (g .gone ++ g .removed)) (g .visitable z)
 
       module _ (after′ : List ℕ → List ℕ → Run) (r′ : Walked) where
         walk-on : (b d : List ℕ) (x : Run) → simplify-ir-node-orders n (after (pushed ++ b) (g .gone ++ d)) ≡ done x → walk ns (before b d) ≡ walk rest x
         unfolding walk _then_
         walk-on b d x e = g .on z b d ∙ ap (λ (o : Outcome Run). o then λ y. walk rest y) e
+
+        stop-on : (b d : List ℕ) (x : Run) → simplify-ir-node-orders n (after (pushed ++ b) (g .gone ++ d)) ≡ done x
+            → walk-stopped ns (before b d) ≡ walk-stopped rest x
+        unfolding walk-stopped
+        stop-on b d x e =
+            g .on-stopped z b d ∙ ap (λ (o : Outcome Run). or-stopped n (after (pushed ++ b) (g .gone ++ d)) o (λ y. walk-stopped rest y)) e
 
         pub more-settled : ((b d : List ℕ) → simplify-ir-node-orders n (after b d) ≡ done (after′ (n ∷ b) d)) → r′ .refused ≡ 0 → r′ .removed ≡ r .removed
             → Walking ns rest before after′ w r′ (n ∷ pushed)
@@ -121,11 +138,11 @@ module _ (ns : List ℕ) (before : List ℕ → List ℕ → Run) (w : Walked) w
               count = same ∙ g .count;
               on = λ _ b d. walk-on b d (after′ (n ∷ (pushed ++ b)) (g .gone ++ d)) (e (pushed ++ b) (g .gone ++ d));
               refusal = λ k. absurd (k z′);
-              most = g .most;
-              few = g .few;
+              on-stopped = λ _ b d. stop-on b d (after′ (n ∷ (pushed ++ b)) (g .gone ++ d)) (e (pushed ++ b) (g .gone ++ d));
+              stop = λ k. absurd (k z′);
               back = g .back;
               removed = g .removed;
-              going = λ _. going-visit (g .most) n rest _ _ (g .going z) (e (pushed ++ g .back) (g .gone ++ g .removed));
+              visitable = λ _. visitable-next n rest _ _ (g .visitable z) (e (pushed ++ g .back) (g .gone ++ g .removed));
             }
 
         pub more-removed : ((b d : List ℕ) → simplify-ir-node-orders n (after b d) ≡ done (after′ b (n ∷ d))) → r′ .refused ≡ 0 → r′ .removed ≡ r .removed + 1
@@ -136,27 +153,32 @@ module _ (ns : List ℕ) (before : List ℕ → List ℕ → Run) (w : Walked) w
               count = omega (arith, one, g .count);
               on = λ _ b d. walk-on b d (after′ (pushed ++ b) (n ∷ (g .gone ++ d))) (e (pushed ++ b) (g .gone ++ d));
               refusal = λ k. absurd (k z′);
-              most = g .most;
-              few = g .few;
+              on-stopped = λ _ b d. stop-on b d (after′ (pushed ++ b) (n ∷ (g .gone ++ d))) (e (pushed ++ b) (g .gone ++ d));
+              stop = λ k. absurd (k z′);
               back = g .back;
               removed = g .removed;
-              going = λ _. going-visit (g .most) n rest _ _ (g .going z) (e (pushed ++ g .back) (g .gone ++ g .removed));
+              visitable = λ _. visitable-next n rest _ _ (g .visitable z) (e (pushed ++ g .back) (g .gone ++ g .removed));
             }
 
-        pub more-refused : ((b d : List ℕ) → simplify-ir-node-orders n (after b d) ≡ refused (r′ .refused)) → r′ .refused ≢ 0 → r′ .removed ≡ r .removed
+        pub more-refused : ((b d : List ℕ) → simplify-ir-node-orders n (after b d) ≡ refused (r′ .refused)) → r′ .refused ≢ 0
+            → ((b d : List ℕ) → stopped-at n (after b d) ≡ after′ b d) → r′ .removed ≡ r .removed
             → Walking ns rest before after′ w r′ pushed
-        unfolding walk _then_
-        more-refused e k same =
+        unfolding walk walk-stopped _then_
+        more-refused e k s same =
             record {
               gone = g .gone;
               count = same ∙ g .count;
               on = λ z′. absurd (k z′);
               refusal = λ _ b d. g .on z b d ∙ ap (λ (o : Outcome Run). o then λ y. walk rest y) (e (pushed ++ b) (g .gone ++ d));
-              most = g .most;
-              few = g .few;
+              on-stopped = λ z′. absurd (k z′);
+              stop =
+                  λ _ b d.
+                  g .on-stopped z b d
+                  ∙ ap (λ (o : Outcome Run). or-stopped n (after (pushed ++ b) (g .gone ++ d)) o (λ y. walk-stopped rest y)) (e (pushed ++ b) (g .gone ++ d))
+                  ∙ s (pushed ++ b) (g .gone ++ d);
               back = g .back;
               removed = g .removed;
-              going = λ z′. absurd (k z′);
+              visitable = λ z′. absurd (k z′);
             }
 
 -- The array of places to go back along -----------------------------------------------------------------------------------------------------
@@ -189,9 +211,9 @@ walking-more ns before w after r n rest after′ r′ back back′ size few g z 
       omega (arith, at-is),
       omega (arith, one),
     )
-walking-more ns before w after r n rest after′ r′ back back′ size few g z (refused-at e k back-is at-is same) =
+walking-more ns before w after r n rest after′ r′ back back′ size few g z (refused-at e k s back-is at-is same) =
     let p : drop (r′ .at) back′ ≡ drop (r .at) back = ap (drop (r′ .at)) back-is ∙ ap (λ (m : ℕ). drop m back) at-is in (
-      subst (Walking ns rest before after′ w r′) (sym p) (more-refused ns before w after r (drop (r .at) back) n rest g z after′ r′ e k same),
+      subst (Walking ns rest before after′ w r′) (sym p) (more-refused ns before w after r (drop (r .at) back) n rest g z after′ r′ e k s same),
       ap length back-is ∙ size,
       omega (arith, at-is),
       omega (arith, at-is),

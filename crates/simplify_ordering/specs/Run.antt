@@ -4,15 +4,13 @@ use Prim.Native.Nat.{ℕ, _+_, _≤_, _<_, _^_}
 use mathlib.Core.Bool.{Bool}
 use mathlib.Core.List.{List, _∷_, map, List·Memᴰ}
 use lib.ListN.{length, set}
-use Rattle.plan.specs.declared.rules.Options.{Options}
 use Rattle.plan.specs.declared.rules.Around.{Around}
 use Rattle.plan.specs.declared.rules.Observable.{Observable}
 use Rattle.plan.specs.FunctionIR.{rust-functions}
-use Rattle.plan.specs.Lists.{if_then_else_}
 use Rattle.plan.specs.Sheet.{Step, Outcome, refused, done, step-at}
 use Rattle.plan.specs.Graph.{Edge}
 use Rattle.storage.specs.Stored.{arena-of, stored-steps, Steps-held}
-use Rattle.plan.specs.Visit.{Run, options-of, with-options, rule, loosened, join-fails, sink-fails, looked-in}
+use Rattle.plan.specs.Visit.{Run, options-of, with-options, rule, loosened, looked-in}
 use Rattle.plan.specs.declared.tally.Tally.{Tally}
 use Rattle.simplify_ordering.specs.declared.visit.Visit.{Visit}
 use Rattle.simplify_ordering.specs.declared.visit.Visited.{Visited}
@@ -42,10 +40,6 @@ pub record Run-held (recs line : List ℕ) (off : List Bool) (m : ℕ) (steps : 
 
 -- A step settled by its rule, its looks made ---------------------------------------------------------------------------------------
 
--- 10, 11, or 0 for neither
-abbrev pub refusal-number : Options → Observable → ℕ
-refusal-number s o = if join-fails s o then 10 else if sink-fails s o then 11 else 0
-
 -- ps and ds are the steps and the edges before, ps′ and ds′ those after
 pub record Ruled-by (n : ℕ) (e : Around) (o : Observable) (ps : List Step) (ds : List Edge) (ps′ : List Step) (ds′ : List Edge) : Type 0 where
   pub steps : ps′ ≡ set ps n (with-options (rule rust-functions (options-of (step-at ps n)) e o .options) (step-at ps n))
@@ -58,6 +52,30 @@ abbrev pub visited-of : Visited → ℕ → (List ℕ → List ℕ → Run) → 
 visited-of Visited.Settled n after back removed = done (after (n ∷ back) removed)
 visited-of Visited.Removed n after back removed = done (after back (n ∷ removed))
 visited-of (Visited.Refused k) n after back removed = refused k
+
+-- what a visit to n that is refused leaves: its looks are made, and no visit is counted
+abbrev pub stopped-at : ℕ → Run → Run
+stopped-at n r =
+    let l = looked-in n r in
+    record {
+      arena = l .end .expr-arena;
+      steps = set (r .steps) n (l .step);
+      edges = r .edges;
+      back = r .back;
+      removed = r .removed;
+      tally = l .end .tally;
+    }
+
+abbrev pub Stops-at : Visited → Run → Run → Type 0
+Stops-at Visited.Settled stop after = Unit
+Stops-at Visited.Removed stop after = Unit
+Stops-at (Visited.Refused k) stop after = stop ≡ after
+
+-- a visit to n, or the settling of n, against the definition's. `before` and `after` give the run from the two lists that the code does
+-- not hold
+pub record Comes (visit : ℕ → Run → Outcome Run) (n : ℕ) (before after : List ℕ → List ℕ → Run) (v : Visited) : Type 0 where
+  pub outcome : (back removed : List ℕ) → visit n (before back removed) ≡ visited-of v n after back removed
+  pub stop : (back removed : List ℕ) → Stops-at v (stopped-at n (before back removed)) (after back removed)
 
 -- What the settling of step n leans on
 pub record Settle-asks (n : ℕ) (r : Run) : Type 0 where

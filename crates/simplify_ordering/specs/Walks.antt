@@ -2,21 +2,21 @@
 use mathlib.Core.Path.{_≡_}
 use Prim.Native.Nat.{ℕ, _+_, _≤_}
 use mathlib.Core.Bool.{Bool}
-use mathlib.Core.List.{List, _∷_, _++_}
+use mathlib.Core.List.{List, [], _∷_, _++_}
 use lib.ListN.{length, set, take}
 use Rattle.plan.specs.Sheet.{Sheet, Outcome, refused, done}
 use Rattle.plan.specs.Graph.{graph}
 use Rattle.storage.specs.Stored.{arena-of, stored-steps}
 use Rattle.plan.specs.Visit.{Run, simplify-ir-node-orders}
-use Rattle.plan.specs.Walks.{walk, down}
+use Rattle.plan.specs.Walks.{walk, begin, down}
 use Rattle.claims.specs.WellFormed.{WellFormed}
-use Rattle.claims.proofs.Visitables.{Going}
 use Rattle.plan.specs.declared.tally.Tally.{Tally}
+use Rattle.claims.specs.Visitable.{All-visitable}
 use Rattle.simplify_ordering.specs.declared.walks.Fetched.{Fetched}
 use Rattle.simplify_ordering.specs.declared.walks.Orderings.{Orderings}
 use Rattle.simplify_ordering.specs.declared.walks.Walked.{Walked}
 use Rattle.node_rules.specs.Held.{held-edges}
-use Rattle.simplify_ordering.specs.Run.{Run-held}
+use Rattle.simplify_ordering.specs.Run.{Run-held, stopped-at}
 
 -- One place ----------------------------------------------------------------------------------------------------------------------------
 
@@ -27,18 +27,25 @@ pub data Placed (n : ℕ) (before after : List ℕ → List ℕ → Run) (w : Wa
       → back′ ≡ set back (r .at) n → r .removed ≡ w .removed → Placed n before after w back r back′
   removed : ((b d : List ℕ) → simplify-ir-node-orders n (before b d) ≡ done (after b (n ∷ d))) → r .refused ≡ 0 → r .at ≡ w .at
       → back′ ≡ back → r .removed ≡ w .removed + 1 → Placed n before after w back r back′
-  refused-at : ((b d : List ℕ) → simplify-ir-node-orders n (before b d) ≡ refused (r .refused)) → (r .refused ≡ 0 → ⊥) → back′ ≡ back
-      → r .at ≡ w .at → r .removed ≡ w .removed → Placed n before after w back r back′
+  refused-at : ((b d : List ℕ) → simplify-ir-node-orders n (before b d) ≡ refused (r .refused)) → (r .refused ≡ 0 → ⊥)
+      → ((b d : List ℕ) → stopped-at n (before b d) ≡ after b d) → back′ ≡ back → r .at ≡ w .at → r .removed ≡ w .removed → Placed n before after w back r back′
 
 -- A walk along the places ns ------------------------------------------------------------------------------------------------------------
 
--- it sets out from a run that has them still to visit. `before` gives the run from the two lists that the code does not hold
+-- at each of its visits what the code leans on holds. `before` gives the run from the two lists that the code does not hold
 pub record Walk-asks (ns : List ℕ) (before : List ℕ → List ℕ → Run) : Type 0 where
-  pub most : ℕ
-  pub few : most ≤ 576
   pub back : List ℕ
   pub removed : List ℕ
-  pub going : Going most ns (before back removed)
+  pub visitable : All-visitable ns (before back removed)
+
+-- the run that a walk leaves which is refused: the visits before that one are made, and its looks
+abbrev pub or-stopped : ℕ → Run → Outcome Run → (Run → Run) → Run
+or-stopped n r (refused k) on = stopped-at n r
+or-stopped n r (done r′) on = on r′
+
+unfoldable pub walk-stopped : List ℕ → Run → Run
+walk-stopped [] r = r
+walk-stopped (n ∷ ns) r = or-stopped n r (simplify-ir-node-orders n r) (λ r′. walk-stopped ns r′)
 
 -- w is as it sets out, r as it ends: it was refused, or it came to its end. `pushed` are the places that were gone back along, `gone`
 -- the sorts that were removed
@@ -47,6 +54,7 @@ pub record Walk-gives (ns : List ℕ) (before after : List ℕ → List ℕ → 
   pub count : r .removed ≡ w .removed + length gone
   pub is : r .refused ≡ 0 → (back removed : List ℕ) → walk ns (before back removed) ≡ done (after (pushed ++ back) (gone ++ removed))
   pub refusal : (r .refused ≡ 0 → ⊥) → (back removed : List ℕ) → walk ns (before back removed) ≡ refused (r .refused)
+  pub stop : (r .refused ≡ 0 → ⊥) → (back removed : List ℕ) → walk-stopped ns (before back removed) ≡ after (pushed ++ back) (gone ++ removed)
 
 -- Both walks ------------------------------------------------------------------------------------------------------------------------------
 
@@ -61,6 +69,14 @@ pub record Fetch-asks (recs line : List ℕ) (off : List Bool) (m : ℕ) (steps 
   pub places-are : take places list ≡ graph (stored-steps steps n) .0
   pub edges-are : held-edges consumer slot producer unordered edges ≡ graph (stored-steps steps n) .1
 
+-- the run that both walks leave where one of them is refused: from the outcome of the downward walk
+abbrev pub stopped-by : Sheet → Outcome Run → Run
+stopped-by sh (refused k) = walk-stopped (graph (sh .steps) .0) (begin sh)
+stopped-by sh (done half) = walk-stopped (half .back) half
+
+unfoldable pub fetch-stopped : Sheet → Run
+fetch-stopped sh = stopped-by sh (down sh)
+
 -- the downward walk against the definition's: it was refused, or `pushed` are the places to go back along and `gone` the sorts that
 -- were removed. `half` gives the run from these two lists
 pub record Down-gives (sh : Sheet) (half : List ℕ → List ℕ → Run) (r : Walked) (pushed : List ℕ) : Type 0 where
@@ -68,6 +84,7 @@ pub record Down-gives (sh : Sheet) (half : List ℕ → List ℕ → Run) (r : W
   pub count : r .removed ≡ length gone
   pub is : r .refused ≡ 0 → down sh ≡ done (half pushed gone)
   pub refusal : (r .refused ≡ 0 → ⊥) → down sh ≡ refused (r .refused)
+  pub stop : (r .refused ≡ 0 → ⊥) → walk-stopped (graph (sh .steps) .0) (begin sh) ≡ half pushed gone
 
 -- the answer r from the end w of the upward walk
 pub data Answers (w : Walked) (r : Orderings) : Type 0 where
@@ -80,6 +97,15 @@ Orderings-are o after (Orderings.Refused k) = o ≡ refused k
 Orderings-are o after (Orderings.Fetched f) =
     (back : List ℕ) × (gone : List ℕ) × (o ≡ done (after (f .exprs) back gone (f .tally))) × (f .removed ≡ length gone)
 
-abbrev pub Orderings-held : (ℕ → Type 0) → Orderings → Type 0
-Orderings-held held (Orderings.Refused k) = Unit
-Orderings-held held (Orderings.Fetched f) = held (f .exprs)
+-- what the walks leave where one is refused: `stop`, for some arena's length, lists and tally
+pub record Stopped-in (held : ℕ → Type 0) (stop : Run) (after : ℕ → List ℕ → List ℕ → Tally → Run) : Type 0 where
+  pub exprs : ℕ
+  pub back : List ℕ
+  pub removed : List ℕ
+  pub tally : Tally
+  pub is : after exprs back removed tally ≡ stop
+  pub is-held : held exprs
+
+abbrev pub Orderings-held : (ℕ → Type 0) → Run → (ℕ → List ℕ → List ℕ → Tally → Run) → Orderings → Type 0
+Orderings-held held stop after (Orderings.Refused k) = Stopped-in held stop after
+Orderings-held held stop after (Orderings.Fetched f) = held (f .exprs)

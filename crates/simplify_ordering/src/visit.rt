@@ -9,10 +9,10 @@ ghost use Rattle.plan.specs.declared.ir.IR.{IR};
 ghost use Rattle.plan.specs.Lists.{yes?};
 ghost use Rattle.plan.specs.Sheet.{step-at};
 ghost use Rattle.storage.specs.Stored.{stored-steps, Steps-held};
-ghost use Rattle.plan.specs.Visit.{options-of, around, settle, simplify-ir-node-orders};
+ghost use Rattle.plan.specs.Visit.{options-of, around, refusal-number, settle, simplify-ir-node-orders};
 ghost use Rattle.claims.specs.Visitable.{Visitable};
 ghost use Rattle.node_rules.specs.Held.{held-edges};
-ghost use Rattle.simplify_ordering.specs.Run.{run-of, Run-held, refusal-number, Ruled-by, visited-of, Settle-asks};
+ghost use Rattle.simplify_ordering.specs.Run.{run-of, Run-held, Ruled-by, Comes, Settle-asks};
 use crate::looks::looks_of;
 use node_rules::around::around_step;
 use node_rules::loosen::loosen_edges;
@@ -59,6 +59,7 @@ fn settle_by_rule(
     requires { ⌜ (edges ≤ 256) × (length (now unordered) ≡ 256) ⌝ }
     ensures { λ r. ⌜ r ≡ refusal-number (options-of (step-at (stored-steps (now (steps .entry)) «n_steps») n)) o ⌝ }
     ensures { λ r. ⌜ (r ≡ 0 → Ruled-by n e o (stored-steps (now (steps .entry)) «n_steps») (held-edges (now (consumer .entry)) (now (slot .entry)) (now (producer .entry)) (now (unordered .entry)) edges) (stored-steps (now (steps .exit)) «n_steps») (held-edges (now (consumer .entry)) (now (slot .entry)) (now (producer .entry)) (now (unordered .exit)) edges)) ⌝ }
+    ensures { λ r. ⌜ ((r ≡ 0 → ⊥) → (now (steps .exit) ≡ now (steps .entry)) × (now (unordered .exit) ≡ now (unordered .entry))) ⌝ }
     ensures { λ r. ⌜ Steps-held (now (steps .exit)) «n_steps» × (length (now (unordered .exit)) ≡ 256) ⌝ }
 {
     let k = refusal_of(s, o);
@@ -94,12 +95,13 @@ fn settle(
     requires { ⌜ Run-held (now recs) (now line) (now off) exprs (now steps) «n_steps» (now producer) (now unordered) edges × (n < «n_steps») ⌝ }
     requires { ⌜ (s ≡ options-of (step-at (stored-steps (now steps) «n_steps») n)) × (e ≡ around n (held-edges (now consumer) (now slot) (now producer) (now unordered) edges)) ⌝ }
     requires { ⌜ Settle-asks n (run-of (now recs) (now line) (now off) exprs (now steps) «n_steps» (now consumer) (now slot) (now producer) (now unordered) edges [] [] tally) ⌝ }
-    ensures { λ r. ⌜ ((back removed : List ℕ) → settle n (run-of (now (recs .entry)) (now (line .entry)) (now (off .entry)) exprs (now (steps .entry)) «n_steps» (now (consumer .entry)) (now (slot .entry)) (now (producer .entry)) (now (unordered .entry)) edges back removed tally) ≡ visited-of (r .visited) n (λ b d. run-of (now (recs .exit)) (now (line .exit)) (now (off .exit)) (r .exprs) (now (steps .exit)) «n_steps» (now (consumer .entry)) (now (slot .entry)) (now (producer .entry)) (now (unordered .exit)) edges b d (r .tally)) back removed) ⌝ }
+    ensures { λ r. ⌜ Comes settle n (λ b d. run-of (now (recs .entry)) (now (line .entry)) (now (off .entry)) exprs (now (steps .entry)) «n_steps» (now (consumer .entry)) (now (slot .entry)) (now (producer .entry)) (now (unordered .entry)) edges b d tally) (λ b d. run-of (now (recs .exit)) (now (line .exit)) (now (off .exit)) (r .exprs) (now (steps .exit)) «n_steps» (now (consumer .entry)) (now (slot .entry)) (now (producer .entry)) (now (unordered .exit)) edges b d (r .tally)) (r .visited) ⌝ }
     ensures { λ r. ⌜ Run-held (now (recs .exit)) (now (line .exit)) (now (off .exit)) (r .exprs) (now (steps .exit)) «n_steps» (now (producer .entry)) (now (unordered .exit)) edges ⌝ }
 {
     let i = n as usize;
     let l = looks_of(steps, n_steps, i, recs, line, off, exprs, tally, s, e);
     let o = l.observable;
+    let t = l.tally;
     let k = settle_by_rule(
         steps,
         n_steps,
@@ -117,10 +119,9 @@ fn settle(
         return Visit {
             visited: Visited::Refused(k),
             exprs: l.exprs,
-            tally: tally,
+            tally: t,
         };
     }
-    let t = l.tally;
     Visit {
         visited: Visited::Settled,
         exprs: l.exprs,
@@ -153,7 +154,7 @@ pub fn simplify_ir_node_orders(
 ) -> Visit
     requires { ⌜ Run-held (now recs) (now line) (now off) exprs (now steps) «n_steps» (now producer) (now unordered) edges ⌝ }
     requires { ⌜ Visitable n (run-of (now recs) (now line) (now off) exprs (now steps) «n_steps» (now consumer) (now slot) (now producer) (now unordered) edges [] [] tally) ⌝ }
-    ensures { λ r. ⌜ ((back removed : List ℕ) → simplify-ir-node-orders n (run-of (now (recs .entry)) (now (line .entry)) (now (off .entry)) exprs (now (steps .entry)) «n_steps» (now (consumer .entry)) (now (slot .entry)) (now (producer .entry)) (now (unordered .entry)) edges back removed tally) ≡ visited-of (r .visited) n (λ b d. run-of (now (recs .exit)) (now (line .exit)) (now (off .exit)) (r .exprs) (now (steps .exit)) «n_steps» (now (consumer .entry)) (now (slot .entry)) (now (producer .exit)) (now (unordered .exit)) edges b d (r .tally)) back removed) ⌝ }
+    ensures { λ r. ⌜ Comes simplify-ir-node-orders n (λ b d. run-of (now (recs .entry)) (now (line .entry)) (now (off .entry)) exprs (now (steps .entry)) «n_steps» (now (consumer .entry)) (now (slot .entry)) (now (producer .entry)) (now (unordered .entry)) edges b d tally) (λ b d. run-of (now (recs .exit)) (now (line .exit)) (now (off .exit)) (r .exprs) (now (steps .exit)) «n_steps» (now (consumer .entry)) (now (slot .entry)) (now (producer .exit)) (now (unordered .exit)) edges b d (r .tally)) (r .visited) ⌝ }
     ensures { λ r. ⌜ Run-held (now (recs .exit)) (now (line .exit)) (now (off .exit)) (r .exprs) (now (steps .exit)) «n_steps» (now (producer .exit)) (now (unordered .exit)) edges ⌝ }
 {
     let i = n as usize;

@@ -6,8 +6,8 @@ ghost use lib.ListN.{length, take, drop};
 ghost use Rattle.claims.specs.Visitable.{Visitable};
 ghost use Rattle.plan.specs.Visit.{Run, simplify-ir-node-orders};
 ghost use Rattle.plan.specs.Walks.{simplify-and-fetch-orderings};
-ghost use Rattle.simplify_ordering.specs.Run.{run-of, Run-held, visited-of};
-ghost use Rattle.simplify_ordering.specs.Walks.{Placed, Walk-asks, Walk-gives, sheet-of, Fetch-asks, Down-gives, Answers, Orderings-are, Orderings-held};
+ghost use Rattle.simplify_ordering.specs.Run.{run-of, Run-held, Comes};
+ghost use Rattle.simplify_ordering.specs.Walks.{Placed, Walk-asks, Walk-gives, sheet-of, Fetch-asks, fetch-stopped, Down-gives, Answers, Orderings-are, Orderings-held};
 use crate::visit::Visit;
 use crate::visit::Visited;
 use crate::visit::simplify_ir_node_orders;
@@ -41,7 +41,7 @@ pub enum Orderings {
 // What the visit v to n leaves of a walk: a settled step is stored as a place to go back along, a removed sort is counted.
 fn place(back: &mut [u8; 288], n: u8, w: Walked, v: Visit) -> Walked
     requires { ⌜ (1 ≤ w .at) × (w .at ≤ 288) × (length (now back) ≡ 288) × (w .removed < 18446744073709551615) ⌝ }
-    ensures { λ r. ⌜ ((before after : List ℕ → List ℕ → Run) → ((b d : List ℕ) → simplify-ir-node-orders n (before b d) ≡ visited-of (v .visited) n after b d) → Placed n before after w (now (back .entry)) r (now (back .exit))) ⌝ }
+    ensures { λ r. ⌜ ((before after : List ℕ → List ℕ → Run) → Comes simplify-ir-node-orders n before after (v .visited) → Placed n before after w (now (back .entry)) r (now (back .exit))) ⌝ }
     ensures { λ r. ⌜ (r .exprs ≡ v .exprs) × (r .tally ≡ v .tally) ⌝ }
 {
     let tally = v.tally;
@@ -302,7 +302,7 @@ pub fn simplify_and_fetch_orderings(
 ) -> Orderings
     requires { ⌜ Fetch-asks (now recs) (now line) (now off) exprs (now steps) «n_steps» (now consumer) (now slot) (now producer) (now unordered) edges (now list) places ⌝ }
     ensures { λ r. ⌜ Orderings-are (simplify-and-fetch-orderings (sheet-of (now (recs .entry)) (now (line .entry)) (now (off .entry)) exprs (now (steps .entry)) «n_steps»)) (λ m b d t. run-of (now (recs .exit)) (now (line .exit)) (now (off .exit)) m (now (steps .exit)) «n_steps» (now (consumer .entry)) (now (slot .entry)) (now (producer .exit)) (now (unordered .exit)) edges b d t) r ⌝ }
-    ensures { λ r. ⌜ Orderings-held (λ m. Run-held (now (recs .exit)) (now (line .exit)) (now (off .exit)) m (now (steps .exit)) «n_steps» (now (producer .exit)) (now (unordered .exit)) edges) r ⌝ }
+    ensures { λ r. ⌜ Orderings-held (λ m. Run-held (now (recs .exit)) (now (line .exit)) (now (off .exit)) m (now (steps .exit)) «n_steps» (now (producer .exit)) (now (unordered .exit)) edges) (fetch-stopped (sheet-of (now (recs .entry)) (now (line .entry)) (now (off .entry)) exprs (now (steps .entry)) «n_steps»)) (λ m b d t. run-of (now (recs .exit)) (now (line .exit)) (now (off .exit)) m (now (steps .exit)) «n_steps» (now (consumer .entry)) (now (slot .entry)) (now (producer .exit)) (now (unordered .exit)) edges b d t) r ⌝ }
 {
     let mut back: [u8; 288] = [0; 288];
     let down = walk_down(

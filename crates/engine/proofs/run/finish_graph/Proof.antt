@@ -31,7 +31,7 @@ enum-known-f c = search needs
 
 write-run-requires : tie.Need-write-run-requires
 write-run-requires c κs =
-    let h = held-run _ _ _ (c .before .before .before .before .before .before .before .f .given .1) (c .before .before .before .before .before .before .before .before .before .simplify-and-fetch-orderings .ensures .1) in
+    let h = held-run _ _ _ _ _ (c .before .before .before .before .before .before .before .f .given .1) (c .before .before .before .before .before .before .before .before .before .simplify-and-fetch-orderings .ensures .1) in
     (c .before .before .before .before .before .before .before .before .before .before .before .before .before .before .before .before .before .before .before .before .before .before .before .pre .0, (h .arena, h .steps-held, h .few))
 
 returns : tie.Need-returns

@@ -1,4 +1,4 @@
-use Rattle.simplify_ordering.proofs.VisitLaws.{listed-of, options-now, settle-refused, settle-done, visit-fits}
+use Rattle.simplify_ordering.proofs.VisitLaws.{listed-of, options-now, stops, settle-refused, settle-done, visit-fits}
 use Rattle.simplify_ordering.specs.Run.{run-of}
 use Rattle.node_rules.specs.Held.{held-edges}
 use Rattle.storage.specs.Stored.{arena-of, stored-steps}
@@ -24,28 +24,31 @@ looks-of-requires c κs =
 -- src/visit.rt:104:9
 settle-by-rule-requires : tie.Need-settle-by-rule-requires
 settle-by-rule-requires c κs =
-    let s = c .before .before .before .before .before .before .before .before in
+    let s = c .before .before .before .before .before .before .before .before .before in
     let a = s .args in
     let ps = stored-steps (now (a .steps)) (a .n-steps) in
     let ds = held-edges (now (a .consumer)) (now (a .slot)) (now (a .producer)) (now (a .unordered)) (a .edges) in
     let es = arena-of (now (a .recs)) (now (a .line)) (now (a .off)) (a .exprs) in
     let here : a .n < length ps = omega (arith, s .pre .0 .1, length-steps (now (a .steps)) (a .n-steps)) in
-    let g = rw (s .pre .1 .0 .1) at (c .before .before .before .looks-of .ensures) in
+    let g = rw (s .pre .1 .0 .1) at (c .before .before .before .before .looks-of .ensures) in
     ((g .steps-held, s .pre .0 .1, s .pre .1 .0 .0 ∙ options-now es ps ds (a .n) (a .tally) here _ (g .steps-are)), (s .pre .0 .0 .few, s .pre .0 .0 .marks))
 
 -- src/visit.rt:108:9
 returns : tie.Need-returns
 returns c =
-    let s = c .before .before .before .before .before .before .before .before .before .before in
+    let s = c .before .before .before .before .before .before .before .before .before .before .before in
     let a = s .args in
     let ps = stored-steps (now (a .steps)) (a .n-steps) in
     let ds = held-edges (now (a .consumer)) (now (a .slot)) (now (a .producer)) (now (a .unordered)) (a .edges) in
     let es = arena-of (now (a .recs)) (now (a .line)) (now (a .off)) (a .exprs) in
     let here : a .n < length ps = omega (arith, s .pre .0 .1, length-steps (now (a .steps)) (a .n-steps)) in
-    let g = rw (s .pre .1 .0 .1) at (c .before .before .before .before .before .looks-of .ensures) in
+    let g = rw (s .pre .1 .0 .1) at (c .before .before .before .before .before .before .looks-of .ensures) in
     let b = c .before .settle-by-rule in (
-      (λ back removed. settle-refused es ps ds (a .n) (a .tally) here _ (g .steps-are) (c .before .before .before .before .before .looks-of .result .observable) (g .observable) (b .result) (b .ensures .0) back removed (c .if1 .taken)),
-      record { arena = g .held; steps-held = b .ensures .1 .1 .0; few = s .pre .0 .0 .few; producers = s .pre .0 .0 .producers; marks = b .ensures .1 .1 .1 },
+      record {
+        outcome = λ back removed. settle-refused es ps ds (a .n) (a .tally) here _ (g .steps-are) (c .before .before .before .before .before .before .looks-of .result .observable) (g .observable) (b .result) (b .ensures .0) back removed (c .if1 .taken);
+        stop = λ back removed. rw (b .ensures .1 .1 .0 (c .if1 .taken) .0, b .ensures .1 .1 .0 (c .if1 .taken) .1) (stops es ps ds (a .n) (a .tally) here _ (g .steps-are) _ _ (g .arena) (g .tally-is) back removed);
+      },
+      record { arena = g .held; steps-held = b .ensures .1 .1 .1 .0; few = s .pre .0 .0 .few; producers = s .pre .0 .0 .producers; marks = b .ensures .1 .1 .1 .1 },
     )
 
 visited-requires : tie.Need-visited-requires
@@ -65,9 +68,12 @@ returns-2 c =
     let es = arena-of (now (a .recs)) (now (a .line)) (now (a .off)) (a .exprs) in
     let here : a .n < length ps = omega (arith, s .pre .0 .1, length-steps (now (a .steps)) (a .n-steps)) in
     let g = rw (s .pre .1 .0 .1) at (c .before .before .before .before .before .before .before .looks-of .ensures) in
-    let b = c .before .before .before .settle-by-rule in (
-      (λ back removed. settle-done es ps ds (a .n) (a .tally) here _ (g .steps-are) (c .before .before .before .before .before .before .before .looks-of .result .observable) (g .observable) (b .result) (b .ensures .0) back removed (c .before .before .if1 .left) _ _ _ _ (g .arena) (c .visited .ensures ∙ ap visit-more (g .tally-is)) (rw (s .pre .1 .0 .1) at (b .ensures .1 .0 (c .before .before .if1 .left)))),
-      record { arena = g .held; steps-held = b .ensures .1 .1 .0; few = s .pre .0 .0 .few; producers = s .pre .0 .0 .producers; marks = b .ensures .1 .1 .1 },
+    let b = c .before .before .settle-by-rule in (
+      record {
+        outcome = λ back removed. settle-done es ps ds (a .n) (a .tally) here _ (g .steps-are) (c .before .before .before .before .before .before .before .looks-of .result .observable) (g .observable) (b .result) (b .ensures .0) back removed (c .before .if1 .left) _ _ _ _ (g .arena) (c .visited .ensures ∙ ap visit-more (g .tally-is)) (rw (s .pre .1 .0 .1) at (b .ensures .1 .0 (c .before .if1 .left)));
+        stop = λ back removed. tt;
+      },
+      record { arena = g .held; steps-held = b .ensures .1 .1 .1 .0; few = s .pre .0 .0 .few; producers = s .pre .0 .0 .producers; marks = b .ensures .1 .1 .1 .1 },
     )
 
 pub settle-spec : {M : Type 1} → statement M

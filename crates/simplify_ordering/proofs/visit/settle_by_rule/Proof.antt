@@ -1,14 +1,13 @@
-use Rattle.simplify_ordering.specs.Run.{refusal-number}
 use Rattle.node_rules.specs.Held.{held-edges}
 use Rattle.plan.specs.declared.rules.Options.{Options}
 use Rattle.plan.specs.declared.rules.Ruled.{Ruled}
-use Rattle.plan.specs.Visit.{with-options, rule, loosened}
+use Rattle.plan.specs.Visit.{with-options, rule, loosened, refusal-number}
 use Rattle.storage.specs.Stored.{stored-steps}
 use Rattle.plan.specs.FunctionIR.{rust-functions}
 use Rattle.plan.specs.Sheet.{step-at}
 use lib.ListN.{set}
 use mathlib.Core.List.{map}
-use mathlib.Core.Path.{sym, _∙_, ap}
+use mathlib.Core.Path.{refl, sym, _∙_, ap}
 use denote.Ref.{now}
 use borrow.Author.Needs.{needs}
 use Rattle.simplify_ordering.proofs.visit.settle_by_rule.Statement.{statement}
@@ -21,7 +20,7 @@ refusal-of-requires c κs = search needs
 -- src/visit.rt:66:9
 returns : tie.Need-returns
 returns c =
-    (c .before .refusal-of .ensures ∙ ap (λ (x : Options). refusal-number x (c .before .before .args .o)) (c .before .before .pre .0 .2), ((λ z. absurd (c .if1 .taken z)), (c .before .before .pre .0 .0, c .before .before .pre .1 .1)))
+    (c .before .refusal-of .ensures ∙ ap (λ (x : Options). refusal-number x (c .before .before .args .o)) (c .before .before .pre .0 .2), ((λ z. absurd (c .if1 .taken z)), ((λ _. (refl, refl)), (c .before .before .pre .0 .0, c .before .before .pre .1 .1))))
 
 -- src/visit.rt:68:9
 rule-of-requires : tie.Need-rule-of-requires
@@ -50,7 +49,7 @@ returns-2 c =
           steps = c .before .before .store-options .ensures .0 ∙ ap (λ (x : Ruled). set ps (a .n) (with-options (x .options) (step-at ps (a .n)))) reads;
           edges = c .loosen-edges .ensures .0 ∙ ap (λ (x : Ruled). map (loosened (a .n) (x .loosened)) ds) reads;
         }),
-        (c .before .before .store-options .ensures .1, c .loosen-edges .ensures .1),
+        ((λ k. absurd (k refl)), (c .before .before .store-options .ensures .1, c .loosen-edges .ensures .1)),
       ),
     )
 

@@ -54,7 +54,10 @@ returns c =
     let o = c .before .before .before .before .before .before .before .before .before .before .options-of in
     let e = c .before .before .before .before .before .before .before .around-step in
     let tests = tests-read ps ds (a .n) (o .result) (e .result) (o .ensures) (e .ensures) (g .result) (g .ensures) in (
-      (λ back removed. goes-away es ps ds (a .n) (a .tally) (g .result) tests back removed (c .before .before .before .before .before .if1 .taken) _ _ _ (c .visited .ensures) (c .before .unlink-node .ensures .0)),
+      record {
+        outcome = λ back removed. goes-away es ps ds (a .n) (a .tally) (g .result) tests back removed (c .before .before .before .before .before .if1 .taken) _ _ _ (c .visited .ensures) (c .before .unlink-node .ensures .0);
+        stop = λ back removed. tt;
+      },
       record { arena = s .pre .0 .arena; steps-held = c .before .unlink-node .ensures .1 .0; few = s .pre .0 .few; producers = c .before .unlink-node .ensures .1 .1 .0; marks = c .before .unlink-node .ensures .1 .1 .1 },
     )
 
@@ -82,7 +85,10 @@ returns-2 c =
     let o = c .before .before .before .before .before .before .before .before .before .before .before .before .options-of in
     let e = c .before .before .before .before .before .before .before .before .before .around-step in
     let tests = tests-read ps ds (a .n) (o .result) (e .result) (o .ensures) (e .ensures) (g .result) (g .ensures) in (
-      (λ back removed. goes-on es ps ds (a .n) (a .tally) (g .result) tests back removed (c .before .before .before .before .before .before .before .if1 .left) ∙ c .settle .ensures .0 back removed),
+      record {
+        outcome = λ back removed. goes-on es ps ds (a .n) (a .tally) (g .result) tests back removed (c .before .before .before .before .before .before .before .if1 .left) ∙ c .settle .ensures .0 .outcome back removed;
+        stop = c .settle .ensures .0 .stop;
+      },
       c .settle .ensures .1,
     )
 

@@ -27,15 +27,15 @@ enum-known-visited c = search needs
 
 returns : tie.Need-returns
 returns c =
-    (λ before after h. settled (λ b d. rw (c .before .enum-told .given .1) at (h b d)) refl (omega (arith, c .before .before .before .before .pre .0)) refl refl, (refl, refl))
+    (λ before after h. settled (λ b d. rw (c .before .enum-told .given .1) at (h .outcome b d)) refl (omega (arith, c .before .before .before .before .pre .0)) refl refl, (refl, refl))
 
 returns-2 : tie.Need-returns-2
 returns-2 c =
-    (λ before after h. removed (λ b d. rw (c .before .enum-told2 .given .1) at (h b d)) refl refl refl refl, (refl, refl))
+    (λ before after h. removed (λ b d. rw (c .before .enum-told2 .given .1) at (h .outcome b d)) refl refl refl refl, (refl, refl))
 
 returns-3 : tie.Need-returns-3
 returns-3 c =
-    (λ before after h. refused-at (λ b d. rw (c .before .visited .given .1) at (h b d)) (refused-number (c .before .before .before .before .args .n) _ _ (rw (c .before .visited .given .1) at (h [] []))) refl refl refl, (refl, refl))
+    (λ before after h. refused-at (λ b d. rw (c .before .visited .given .1) at (h .outcome b d)) (refused-number (c .before .before .before .before .args .n) _ _ (rw (c .before .visited .given .1) at (h .outcome [] []))) (λ b d. rw (c .before .visited .given .1) at (h .stop b d)) refl refl refl, (refl, refl))
 
 pub place-spec : {M : Type 1} → statement M
 place-spec =

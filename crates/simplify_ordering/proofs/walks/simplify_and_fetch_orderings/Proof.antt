@@ -1,4 +1,4 @@
-use Rattle.simplify_ordering.proofs.FetchLaws.{down-refused, up-asks, answered, answer-held}
+use Rattle.simplify_ordering.proofs.FetchLaws.{down-refused, down-stopped, up-asks, answered, answer-held}
 use mathlib.Core.Path.{refl}
 use borrow.Author.Needs.{needs}
 use Rattle.simplify_ordering.proofs.walks.simplify_and_fetch_orderings.Statement.{
@@ -10,7 +10,12 @@ walk-down-requires : tie.Need-walk-down-requires
 walk-down-requires c κs = search needs
 
 returns : tie.Need-returns
-returns c = (down-refused _ _ _ _ (c .before .before .walk-down .ensures .0) (c .if1 .taken), tt)
+returns c =
+    let down = c .before .before .walk-down in
+    let e = down .ensures in (
+      down-refused _ _ _ _ (e .0) (c .if1 .taken),
+      record { exprs = down .result .exprs; back = _; removed = _; tally = down .result .tally; is = down-stopped _ _ _ _ (e .0) (c .if1 .taken); is-held = e .1 .0 },
+    )
 
 walk-back-requires : tie.Need-walk-back-requires
 walk-back-requires c κs =
@@ -28,7 +33,7 @@ returns-2 c =
     let left = c .before .before .before .before .before .before .before .before .before .if1 .left in
     let e = c .before .before .before .before .before .before .before .before .before .before .before .walk-down .ensures in
     let up = c .before .walk-back in
-    (answered _ _ _ _ (e .0) (s .pre .formed) (λ b d. refl) left _ (up .result) _ (up .ensures .0 .1) (c .orderings-of .ensures), answer-held _ (up .result) (up .ensures .1) (c .orderings-of .ensures))
+    (answered _ _ _ _ (e .0) (s .pre .formed) (λ b d. refl) left _ (up .result) _ (up .ensures .0 .1) (c .orderings-of .ensures), answer-held _ _ _ _ (e .0) (s .pre .formed) (λ b d. refl) left _ (up .result) _ (up .ensures .0 .1) _ (up .ensures .1) (c .orderings-of .ensures))
 
 pub simplify-and-fetch-orderings-spec : {M : Type 1} → statement M
 simplify-and-fetch-orderings-spec =

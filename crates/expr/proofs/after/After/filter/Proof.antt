@@ -8,11 +8,11 @@ is-empty-requires c κs = search needs
 is-empty-requires-2 : tie.Need-is-empty-requires-2
 is-empty-requires-2 c κs = search needs
 
-row-requires : tie.Need-row-requires
-row-requires c κs = search needs
+twice-requires : tie.Need-twice-requires
+twice-requires c κs = search needs
 
 returns : tie.Need-returns
-returns c = rw (c .row .ensures, c .before .before .before .is-empty2 .ensures, c .before .before .before .before .is-empty .ensures)
+returns c = rw (c .twice .ensures, c .before .before .before .is-empty2 .ensures, c .before .before .before .before .is-empty .ensures)
 
 pub filter-spec : {M : Type 1} → statement M
-filter-spec = tie.close (tie.spec is-empty-requires is-empty-requires-2 row-requires returns)
+filter-spec = tie.close (tie.spec is-empty-requires is-empty-requires-2 twice-requires returns)

@@ -23,11 +23,14 @@ pick-requires-2 c κs = search needs
 union-requires : tie.Need-union-requires
 union-requires c κs = search needs
 
-row-requires : tie.Need-row-requires
-row-requires c κs = search needs
+of-requires : tie.Need-of-requires
+of-requires c κs = search needs
+
+twice-requires : tie.Need-twice-requires
+twice-requires c κs = search needs
 
 returns : tie.Need-returns
-returns c = rw (c .row .ensures, c .before .union .ensures, c .before .before .pick2 .ensures, c .before .before .before .pick .ensures, c .before .before .before .before .before .before .function-output .ensures, c .before .before .before .before .before .before .before .non-order-producing .ensures, c .before .before .before .before .before .before .before .before .terminates-input-order .ensures, c .before .before .before .before .before .before .before .before .before .observes-input-order .ensures)
+returns c = rw (c .twice .ensures, c .before .of .ensures, c .before .before .union .ensures, c .before .before .before .pick2 .ensures, c .before .before .before .before .pick .ensures, c .before .before .before .before .before .before .before .function-output .ensures, c .before .before .before .before .before .before .before .before .non-order-producing .ensures, c .before .before .before .before .before .before .before .before .before .terminates-input-order .ensures, c .before .before .before .before .before .before .before .before .before .before .observes-input-order .ensures)
 
 pub function-spec : {M : Type 1} → statement M
 function-spec =
@@ -40,5 +43,6 @@ function-spec =
     pick-requires
     pick-requires-2
     union-requires
-    row-requires
+    of-requires
+    twice-requires
     returns)

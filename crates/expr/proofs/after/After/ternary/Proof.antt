@@ -8,11 +8,11 @@ ternary-output-requires c κs = search needs
 pick-requires : tie.Need-pick-requires
 pick-requires c κs = search needs
 
-row-requires : tie.Need-row-requires
-row-requires c κs = search needs
+twice-requires : tie.Need-twice-requires
+twice-requires c κs = search needs
 
 returns : tie.Need-returns
-returns c = rw (c .row .ensures, c .before .pick .ensures, c .before .before .ternary-output .ensures)
+returns c = rw (c .twice .ensures, c .before .pick .ensures, c .before .before .ternary-output .ensures)
 
 pub ternary-spec : {M : Type 1} → statement M
-ternary-spec = tie.close (tie.spec ternary-output-requires pick-requires row-requires returns)
+ternary-spec = tie.close (tie.spec ternary-output-requires pick-requires twice-requires returns)

@@ -1,38 +1,20 @@
--- ExprOrderAcc as the definition has it, and the answers of the first three children.
+-- What is seen of a record's children: their ExprOrderAcc, and the answers of the first three.
 use mathlib.Core.Path.{_≡_}
 use Prim.Native.Nat.{ℕ}
-use mathlib.Core.Bool.{false}
 use mathlib.Core.List.{List}
 use lib.Dec.{eqb}
 use lib.ListN.{getD}
 use Rattle.plan.specs.declared.orders.ObservableOrders.{ObservableOrders}
 use Rattle.plan.specs.Lists.{if_then_else_}
-use Rattle.plan.specs.Orders as orders
-use Rattle.plan.specs.Orders.{∅, add}
-use Rattle.expr.specs.declared.order_acc.ExprOrderAcc.{ExprOrderAcc}
-use Rattle.expr.specs.declared.order_acc.Seen.{Seen}
-
-abbrev pub acc-of : ExprOrderAcc → orders.ExprOrderAcc
-acc-of x =
-    record {
-      acc = x .acc;
-      saw-mixed-inputs = x .«saw_mixed_inputs»;
-      num-ordered-inputs = x .«num_ordered_inputs»;
-      last-ordered-node = x .«last_ordered_node»;
-    }
+use Rattle.plan.specs.Orders.{∅, no-orders, add}
+use Rattle.expr.specs.declared.seen.Seen.{Seen}
 
 abbrev pub none-seen : Seen
-none-seen =
-    record {
-      acc = record { acc = ∅; «saw_mixed_inputs» = false; «num_ordered_inputs» = 0; «last_ordered_node» = 0 };
-      first = ∅;
-      second = ∅;
-      third = ∅;
-    }
+none-seen = record { acc = no-orders; first = ∅; second = ∅; third = ∅ }
 
 -- the answer o of the i-th child, which is the node, is seen
 pub record Adds (x : Seen) (o : ObservableOrders) (node i : ℕ) (r : Seen) : Type 0 where
-  pub acc : acc-of (r .acc) ≡ add (acc-of (x .acc)) o node
+  pub acc : r .acc ≡ add (x .acc) o node
   pub first : r .first ≡ if eqb i 0 then o else x .first
   pub second : r .second ≡ if eqb i 1 then o else x .second
   pub third : r .third ≡ if eqb i 2 then o else x .third

@@ -1,9 +1,9 @@
 use borrow.Author.Needs.{needs}
-use Rattle.expr.proofs.after.answer.Statement.{statement}
-use Rattle.expr.proofs.after.answer.Tie as tie
+use Rattle.expr.proofs.after.Output.of.Statement.{statement}
+use Rattle.expr.proofs.after.Output.of.Tie as tie
 
-enum-known-output : tie.Need-enum-known-output
-enum-known-output c = search needs
+enum-known-self : tie.Need-enum-known-self
+enum-known-self c = search needs
 
 enum-told : tie.Need-enum-told
 enum-told c = search needs
@@ -23,7 +23,7 @@ returns-2 c = search needs
 returns-3 : tie.Need-returns-3
 returns-3 c = rw (c .union .ensures, c .before .enum-told2 .given .1)
 
-pub answer-spec : {M : Type 1} → statement M
-answer-spec =
+pub of-spec : {M : Type 1} → statement M
+of-spec =
     tie.close
-    (tie.spec enum-known-output enum-told enum-told-2 union-requires returns returns-2 returns-3)
+    (tie.spec enum-known-self enum-told enum-told-2 union-requires returns returns-2 returns-3)

@@ -1,7 +1,7 @@
 use Rattle.plan.specs.Look.{before}
 use borrow.Author.Needs.{needs}
-use Rattle.expr.proofs.before.Before.of.Statement.{statement}
-use Rattle.expr.proofs.before.Before.of.Tie as tie
+use Rattle.expr.proofs.before.before_of.Statement.{statement}
+use Rattle.expr.proofs.before.before_of.Tie as tie
 
 enum-told : tie.Need-enum-told
 enum-told c = search needs
@@ -253,8 +253,8 @@ returns-25 : tie.Need-returns-25
 unfolding before
 returns-25 c = rw (c .row25 .ensures, c .before .enum-told25 .given .1)
 
-pub of-spec : {M : Type 1} → statement M
-of-spec =
+pub before-of-spec : {M : Type 1} → statement M
+before-of-spec =
     tie.close
     (tie.spec
     enum-told
