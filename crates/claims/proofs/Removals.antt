@@ -14,7 +14,7 @@ use Rattle.plan.specs.Lists.{yes?, sum, times}
 use Rattle.plan.specs.Sheet.{Sheet, Outcome, done, step-at}
 use Rattle.plan.specs.Graph.{Edge, graph}
 use Rattle.plan.specs.Visit.{Run, simplify-ir-node-orders, goes, unlink-node, is-out-of, no-edge, out-edge, settled-by}
-use Rattle.plan.specs.Walks.{walk, trace, then-all, begin, down, up}
+use Rattle.plan.specs.Walks.{walk, trace, then-all, begin, down, up, trace-by, walk-by}
 use Rattle.plan.proofs.ListLaws.{and-right}
 use Rattle.claims.specs.WellFormed.{Accepted}
 use Rattle.plan.specs.Conditions.{Down, Up}
@@ -53,7 +53,7 @@ removal-goes n r (r′, v, k) =
 -- what a walk removed, it removed at a visit
 was-removed : (n : ℕ) (ns : List ℕ) (r : Run) {r′ : Run} → walk ns r ≡ done r′ → List·Memᴰ n (r′ .removed)
     → List·Memᴰ n (r .removed) ⊎ ((v : Run) × List·Memᴰ (n, v) (trace ns r) × Removed-at n v)
-unfolding walk trace
+unfolding walk-by trace-by
 was-removed n [] r e m = inl (subst (λ (q : Run). List·Memᴰ n (q .removed)) (sym (same-value e)) m)
 was-removed n (k ∷ ns) r e m =
     let (r₁, first, rest) = both-done (simplify-ir-node-orders k r) (λ x. walk ns x) e in
@@ -72,7 +72,7 @@ was-removed n (k ∷ ns) r e m =
 
 -- and what a visit removed stays removed
 stays-removed : (n : ℕ) (ns : List ℕ) (r : Run) {r′ : Run} → walk (n ∷ ns) r ≡ done r′ → Removed-at n r → List·Memᴰ n (r′ .removed)
-unfolding walk
+unfolding walk-by
 stays-removed n ns r e (q, v, i) =
     let (r₁, first, rest) = both-done (simplify-ir-node-orders n r) (λ x. walk ns x) e in
     let same : q ≡ r₁ = same-value (sym v ∙ first) in

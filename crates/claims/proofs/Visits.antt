@@ -10,7 +10,7 @@ use Rattle.plan.specs.Sheet.{Step, Sheet, Outcome, done}
 use Rattle.plan.specs.Graph.{Edge, key, build-ir-traversal-graph, graph, grow, popped, following, edges-into, sinks, most-places}
 use Rattle.plan.specs.Visit.{Run, simplify-ir-node-orders, unlink-node, settled-by}
 use Rattle.plan.proofs.Settling.{settled}
-use Rattle.plan.specs.Walks.{walk, trace, then-all, begin, down, up}
+use Rattle.plan.specs.Walks.{walk, trace, then-all, begin, down, up, trace-by, walk-by}
 use Rattle.plan.proofs.Outcomes.{both-done}
 use Rattle.claims.proofs.Walks.{two-ways}
 use Rattle.claims.proofs.VisitsKept.{visit-visits}
@@ -37,7 +37,7 @@ visited n r e =
     ]
 
 pub walked : (ns : List ℕ) (r : Run) {r′ : Run} → walk ns r ≡ done r′ → Tallies (length ns) r r′
-unfolding walk
+unfolding walk-by
 walked [] r {r′} e =
     let same : r ≡ r′ = cc in
     subst (Tallies 0 r) same (record { visits = omega arith; back = omega arith; edges = refl })
@@ -49,7 +49,7 @@ walked (n ∷ ns) r {r′} e =
 
 -- a walk that comes to its end makes a visit at each of its places
 pub traced : (ns : List ℕ) (r : Run) {r′ : Run} → walk ns r ≡ done r′ → length (trace ns r) ≡ length ns
-unfolding walk trace
+unfolding walk-by trace-by
 traced [] r e = refl
 traced (n ∷ ns) r e =
     let (r₁, first, rest) = both-done (simplify-ir-node-orders n r) (λ x. walk ns x) e in

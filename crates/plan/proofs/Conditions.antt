@@ -13,7 +13,7 @@ use Rattle.plan.specs.Lists.{if_then_else_, yes?, empty?}
 use Rattle.plan.proofs.ListLaws.{and-left, and-right}
 use Rattle.plan.specs.Sheet.{Sheet, Outcome, refused, done, _then_, refuse_when_else_, Line, E, P, line-of, expr-fits, expr-of, with-expr, step-fits, step-of, with-step, over-limits, no-plan, read-line, read-lines, onto, parts}
 use Rattle.plan.specs.Visit.{Run, Looked, simplify-ir-node-orders, goes, unlink-node, settle, looked-in, looks-of, options-of, join-fails, sink-fails, elementwise, refusal-number}
-use Rattle.plan.specs.Walks.{walk, trace, then-all}
+use Rattle.plan.specs.Walks.{walk, trace, then-all, trace-by, walk-by}
 use Rattle.plan.specs.Conditions.{Join-observes, Sink-observes, Not-of-form, Outside-table, In-table, Read-into, At-line, At-end}
 use Rattle.plan.proofs.Counts.{true-of, not-both}
 use Rattle.plan.proofs.Booleans.{and-both}
@@ -292,7 +292,7 @@ module _ (n : ℕ) (r : Run) where
 -- a walk that is refused is so at one of its visits
 pub walk-refused : (ns : List ℕ) (r : Run) (k : ℕ) → walk ns r ≡ refused k
     → (n : ℕ) × (v : Run) × List·Memᴰ (n, v) (trace ns r) × (simplify-ir-node-orders n v ≡ refused k)
-unfolding walk trace _then_
+unfolding walk-by trace-by _then_
 walk-refused [] r k e = no-refusal e
 walk-refused (n ∷ ns) r k e = on (simplify-ir-node-orders n r) refl (λ r′. walk-refused ns r′ k) e
   where
@@ -305,7 +305,7 @@ walk-refused (n ∷ ns) r k e = on (simplify-ir-node-orders n r) refl (λ r′. 
 
 -- and one of whose visits is refused, is refused with that number
 pub walk-stops : (ns : List ℕ) (r : Run) (n k : ℕ) (v : Run) → List·Memᴰ (n, v) (trace ns r) → simplify-ir-node-orders n v ≡ refused k → walk ns r ≡ refused k
-unfolding walk trace _then_
+unfolding walk-by trace-by _then_
 walk-stops [] r n k v m x = absurd (List·Memᴰ·not-nil m)
 walk-stops (j ∷ ns) r n k v m x =
     elim (List·Memᴰ·cases-cons m) [

@@ -5,9 +5,28 @@ use Rattle.plan.specs.Sheet.{Sheet, Outcome, refused, done, _then_}
 use Rattle.plan.specs.Graph.{key, graph, update-cache-nodes}
 use Rattle.plan.specs.Visit.{Run, simplify-ir-node-orders}
 
-unfoldable pub walk : List ℕ → Run → Outcome Run
-walk [] r = done r
-walk (n ∷ ns) r = simplify-ir-node-orders n r then λ r′. walk ns r′
+-- what follows where there is something to go on with; nothing after a refusal
+abbrev pub then-all : {A B : Type 0} → Outcome A → (A → List B) → List B
+then-all (refused k) f = []
+then-all (done x) f = f x
+
+-- A walk along places, whatever a visit does
+module _ (visit : ℕ → Run → Outcome Run) where
+  unfoldable pub walk-by : List ℕ → Run → Outcome Run
+  walk-by [] r = done r
+  walk-by (n ∷ ns) r = visit n r then λ r′. walk-by ns r′
+
+  -- its visits, one that is refused included: the step, and the state in which it is visited
+  unfoldable pub trace-by : List ℕ → Run → List (ℕ × Run)
+  trace-by [] r = []
+  trace-by (n ∷ ns) r = (n, r) ∷ then-all (visit n r) (λ r′. trace-by ns r′)
+
+-- A visit is simplify_ir_node_orders
+abbrev pub walk : List ℕ → Run → Outcome Run
+walk = walk-by simplify-ir-node-orders
+
+abbrev pub trace : List ℕ → Run → List (ℕ × Run)
+trace = trace-by simplify-ir-node-orders
 
 unfoldable pub begin : Sheet → Run
 begin sh =
@@ -42,13 +61,3 @@ updated sh r =
 
 unfoldable pub simplify-and-fetch-orderings : Sheet → Outcome Run
 simplify-and-fetch-orderings sh = down sh then up then λ r. done (updated sh r)
-
--- what follows where there is something to go on with; nothing after a refusal
-abbrev pub then-all : {A B : Type 0} → Outcome A → (A → List B) → List B
-then-all (refused k) f = []
-then-all (done x) f = f x
-
--- The visits of a walk, one that is refused included: the step, and the state in which it is visited
-unfoldable pub trace : List ℕ → Run → List (ℕ × Run)
-trace [] r = []
-trace (n ∷ ns) r = (n, r) ∷ then-all (simplify-ir-node-orders n r) (λ r′. trace ns r′)

@@ -13,7 +13,7 @@ use Rattle.plan.specs.Sheet.{Outcome, refused, done, _then_}
 use Rattle.plan.specs.Visit.{Run, goes, settle, unlink-node, looked-in, simplify-ir-node-orders}
 use Rattle.plan.proofs.Settling.{refusal-in}
 use Rattle.plan.proofs.Settling as Settling
-use Rattle.plan.specs.Walks.{walk, trace, then-all}
+use Rattle.plan.specs.Walks.{walk, trace, then-all, trace-by, walk-by}
 use Rattle.claims.specs.Visitable.{Visitable, All-visitable}
 use Rattle.simplify_ordering.specs.declared.walks.Walked.{Walked}
 use Rattle.simplify_ordering.specs.Walks.{Placed, settled, removed, refused-at, Walk-asks, or-stopped, walk-stopped, Walk-gives}
@@ -71,12 +71,12 @@ visitable-apart n r r′ a s e l k =
 
 -- the visits after the first
 visitable-next : (n : ℕ) (rest : List ℕ) (r r′ : Run) → All-visitable (n ∷ rest) r → simplify-ir-node-orders n r ≡ done r′ → All-visitable rest r′
-unfolding trace
+unfolding trace-by
 visitable-next n rest r r′ v e m q i =
     v m q (List·Memᴰ·tail (subst (λ (o : Outcome Run). List·Memᴰ (m, q) (then-all o (λ y. trace rest y))) (sym e) i))
 
 visitable-first : (n : ℕ) (rest : List ℕ) (r : Run) → All-visitable (n ∷ rest) r → Visitable n r
-unfolding trace
+unfolding trace-by
 visitable-first n rest r v = v n r (List·Memᴰ·head refl)
 
 -- ns are all places of the walk, `rest` those that are left; w is the walk as it set out, r as it is now, and `pushed` the places
@@ -112,7 +112,7 @@ module _ (ns : List ℕ) (before : List ℕ → List ℕ → Run) (w : Walked) w
     walking-stops rest g k = record { gone = g .gone; count = g .count; is = λ z. absurd (k z); refusal = g .refusal; stop = g .stop }
 
     pub walking-ends : Walking ns [] before after w r pushed → Walk-gives ns before after w r pushed
-    unfolding walk
+    unfolding walk-by
     walking-ends g = record { gone = g .gone; count = g .count; is = g .on; refusal = g .refusal; stop = g .stop }
 
     module _ (n : ℕ) (rest : List ℕ) (g : Walking ns (n ∷ rest) before after w r pushed) (z : r .refused ≡ 0) where
@@ -121,7 +121,7 @@ module _ (ns : List ℕ) (before : List ℕ → List ℕ → Run) (w : Walked) w
 
       module _ (after′ : List ℕ → List ℕ → Run) (r′ : Walked) where
         walk-on : (b d : List ℕ) (x : Run) → simplify-ir-node-orders n (after (pushed ++ b) (g .gone ++ d)) ≡ done x → walk ns (before b d) ≡ walk rest x
-        unfolding walk _then_
+        unfolding walk-by _then_
         walk-on b d x e = g .on z b d ∙ ap (λ (o : Outcome Run). o then λ y. walk rest y) e
 
         stop-on : (b d : List ℕ) (x : Run) → simplify-ir-node-orders n (after (pushed ++ b) (g .gone ++ d)) ≡ done x
@@ -163,7 +163,7 @@ module _ (ns : List ℕ) (before : List ℕ → List ℕ → Run) (w : Walked) w
         pub more-refused : ((b d : List ℕ) → simplify-ir-node-orders n (after b d) ≡ refused (r′ .refused)) → r′ .refused ≢ 0
             → ((b d : List ℕ) → stopped-at n (after b d) ≡ after′ b d) → r′ .removed ≡ r .removed
             → Walking ns rest before after′ w r′ pushed
-        unfolding walk walk-stopped _then_
+        unfolding walk-by walk-stopped _then_
         more-refused e k s same =
             record {
               gone = g .gone;
