@@ -52,3 +52,4 @@ pub mod WithinLimits
 pub mod Demand3
 pub mod Demand1
 pub mod Visitables
+pub mod Slots

@@ -5,7 +5,7 @@ use Prim.Native.Nat.{ℕ, zero, suc, _+_, _≤_, _<_}
 use native.Mathlib.Omega.{arith}
 use native.Mathlib.Nat.{not-suc-le-zero}
 use native.Mathlib.Decide.{ℕ-discrete}
-use mathlib.Core.Bool.{Bool, true, false, _||_, not}
+use mathlib.Core.Bool.{Bool, true, false, _&&_, _||_, not}
 use mathlib.Core.List.{List, [], _∷_, _++_, map, reverse, List·Memᴰ, List·Memᴰ·head, List·Memᴰ·tail, List·Memᴰ·not-nil, List·Memᴰ·cases-cons, Memᴰ·append-left, Memᴰ·append-right, List·Memᴰ·append-cases, append-nil}
 use mathlib.Core.Option.{some}
 use lib.Dec.{T, eqb, leb, eqb→eq, leb→le, le→leb}
@@ -15,9 +15,9 @@ use Rattle.plan.specs.Sheet.{Step, step-at}
 use Rattle.plan.specs.Faults.{named}
 use Rattle.plan.specs.Graph.{Edge, sinks, is-cache, most-places}
 use Rattle.plan.specs.Visit.{is-into, is-out-of}
-use Rattle.plan.proofs.ListLaws.{sum-append}
+use Rattle.plan.proofs.ListLaws.{sum-append, and-left}
 use Rattle.plan.proofs.Booleans.{T-eq, differ, equal}
-use Rattle.plan.proofs.Counts.{false-of, mem-at, sum-reverse, sum-ones, times-same, times-other, same-number, only}
+use Rattle.plan.proofs.Counts.{false-of, mem-at, sum-reverse, sum-ones, times-same, times-other, same-number, only, not-both, count, count-none}
 use Rattle.claims.proofs.ByLine.{graph, grow, popped, hits, opens, following, edges-into}
 use Rattle.claims.specs.Plan.{Plan}
 use Rattle.claims.proofs.Plans.{root-there, input-there, cache-named}
@@ -99,11 +99,19 @@ record Placed (ps : List Step) (past waiting : List ℕ) (d : Edge) : Type 0 whe
   after : (m : ℕ) → d .producer ≡ some m → List·Memᴰ m waiting ⊎ Later m (d .consumer) past
   made : Made ps d
 
+-- an edge into a slot of c
+abbrev pub is-slot : ℕ → ℕ → Edge → Bool
+is-slot c k d = is-into c d && eqb (d .slot) k
+
+abbrev pub into-slot : ℕ → ℕ → List Edge → ℕ
+into-slot c k ds = count (is-slot c k) ds
+
 -- of the edges made so far
 record Grown (ps : List Step) (past waiting : List ℕ) (es : List Edge) : Type 0 where
   placed : (d : Edge) → List·Memᴰ d es → Placed ps past waiting d
   leaving : (n : ℕ) → times n (sinks ps) + outs n es ≡ times n past + times n waiting
   entering : (n : ℕ) → T (not (is-cache ps n)) → length (step-at ps n .inputs) ≡ 1 → intos n es ≡ times n past
+  single : (c k : ℕ) → into-slot c k es ≤ 1
 
 -- the edges made for a step's inputs
 abbrev made-for : ℕ → ℕ → List ℕ → List Edge
@@ -138,6 +146,36 @@ intos-made n m k (x ∷ ms) = by (eqb m n) (intos-made n m (suc k) ms)
         → (if b then 1 else 0) + intos n (made-for m (suc k) ms) ≡ (if b then suc (length ms) else 0)
     by true e = omega arith
     by false e = omega arith
+
+-- one for each slot, from j on
+slots-made : (c k n j : ℕ) (ms : List ℕ) → (into-slot c k (made-for n j ms) ≤ 1) × (k < j → into-slot c k (made-for n j ms) ≡ 0)
+unfolding numbered sum
+slots-made c k n j [] = (omega arith, λ _. refl)
+slots-made c k n j (x ∷ ms) = by (eqb n c) (ℕ-discrete j k) (slots-made c k n (suc j) ms)
+  where
+    by : (b : Bool) → Dec (j ≡ k) → (into-slot c k (made-for n (suc j) ms) ≤ 1) × (k < suc j → into-slot c k (made-for n (suc j) ms) ≡ 0)
+        → ((if b && eqb j k then 1 else 0) + into-slot c k (made-for n (suc j) ms) ≤ 1)
+        × (k < j → (if b && eqb j k then 1 else 0) + into-slot c k (made-for n (suc j) ms) ≡ 0)
+    by b (no e) (f, g) = rw (differ j k e) (nothing b f, λ h. none b (g (omega arith)))
+      where
+        nothing : (b : Bool) {m : ℕ} → m ≤ 1 → (if b && false then 1 else 0) + m ≤ 1
+        nothing true h = omega arith
+        nothing false h = omega arith
+
+        none : (b : Bool) {m : ℕ} → m ≡ 0 → (if b && false then 1 else 0) + m ≡ 0
+        none true h = omega arith
+        none false h = omega arith
+    by true (yes e) (f, g) = (part (eqb j k) (g (omega arith)), λ h. absurd (omega arith))
+      where
+        part : (a : Bool) {m : ℕ} → m ≡ 0 → (if a then 1 else 0) + m ≤ 1
+        part true h = omega arith
+        part false h = omega arith
+    by false (yes e) (f, g) = (omega arith, λ h. absurd (omega arith))
+
+slots-other : (c k n j : ℕ) (ms : List ℕ) → c ≢ n → into-slot c k (made-for n j ms) ≡ 0
+unfolding numbered sum
+slots-other c k n j [] h = refl
+slots-other c k n j (x ∷ ms) h = rw (differ n c (λ e. h (sym e))) (omega (arith, slots-other c k n (suc j) ms h))
 
 -- p: the visiting list, the last place first
 abbrev Result : List Step → List ℕ × List Edge → Type 0
@@ -195,6 +233,15 @@ module _ (ps : List Step) (plan : Plan ps) where
             (rw (same-number m) (opens-now (is-cache ps m) h))
         by (no k) = rw (differ m n k, differ n m (λ e. k (sym e)))
 
+    -- n has no edges yet
+    slots-next : (es : List Edge) → Grown ps past (n ∷ ns) es → (c j : ℕ) → Dec (c ≡ n) → into-slot c j es + into-slot c j (made-for n 0 ms) ≤ 1
+    slots-next es k c j (no h) = omega (arith, k .single c j, slots-other c j n 0 ms h)
+    slots-next es k c j (yes e) =
+        let none : into-slot c j es ≡ 0 = count-none (is-slot c j) es (λ d m. false-of (is-slot c j d) (λ t.
+        let i = eqb→eq (d .consumer) c (and-left (is-into c d) (eqb (d .slot) j) t) in
+        not-both (opened ps past n) (subst (λ x. T (opened ps past x)) (i ∙ e) (k .placed d m .closed)) (not-yet ps plan past ns n c₀))) in
+        omega (arith, none, slots-made c j n 0 ms .0)
+
     grown-next : (es : List Edge) → Grown ps past (n ∷ ns) es → Grown ps (n ∷ past) (ns ++ ms) (es ++ edges-into n ms)
     unfolding edges-into sum
     grown-next es k =
@@ -212,6 +259,7 @@ module _ (ps : List Step) (plan : Plan ps) where
           entering =
               λ m h l.
               omega (arith, k .entering m h l, sum-append (λ (d : Edge). if is-into m d then 1 else 0) es (made-for n 0 ms), intos-made m n 0 ms, one-follows m h l);
+          single = λ c j. omega (arith, sum-append (λ (d : Edge). if is-slot c j d then 1 else 0) es (made-for n 0 ms), slots-next es k c j (ℕ-discrete c n));
         }
 
   ordered : (f : ℕ) (past waiting : List ℕ) (es : List Edge) → length past + f ≡ most-places ps → Counted ps past waiting
@@ -244,7 +292,7 @@ module _ (ps : List Step) (plan : Plan ps) where
   unfolding graph sum
   result =
       ordered (most-places ps) [] (sinks ps) [] (omega arith) (λ w. omega (arith, followed-none w ps (opened ps []) none-opened))
-      (root-there ps plan) (record { placed = λ d i. absurd (List·Memᴰ·not-nil i); leaving = λ n. omega arith; entering = λ n h l. refl })
+      (root-there ps plan) (record { placed = λ d i. absurd (List·Memᴰ·not-nil i); leaving = λ n. omega arith; entering = λ n h l. refl; single = λ c k. omega arith })
 
 -- The visiting list and the edges ---------------------------------------------------------------------------------------------------------
 
@@ -259,6 +307,8 @@ pub record Ordered (ps : List Step) (places : List ℕ) (es : List Edge) : Type 
   -- an edge for each place but a root's, and one into each place of a step with one input
   pub leaving : (n : ℕ) → times n (sinks ps) + outs n es ≡ times n places
   pub entering : (n : ℕ) → T (not (is-cache ps n)) → length (step-at ps n .inputs) ≡ 1 → intos n es ≡ times n places
+  -- no two into one slot
+  pub single : (c k : ℕ) → into-slot c k es ≤ 1
 
 pub graph-ordered : (ps : List Step) → Plan ps → Ordered ps (graph ps .0) (graph ps .1)
 unfolding opened sum
@@ -274,6 +324,7 @@ graph-ordered ps plan =
       after = λ d m k e. elim (g .placed d m .after k e) [ inl w ↦ absurd (List·Memᴰ·not-nil w) | inr l ↦ l ];
       leaving = λ n. omega (arith, g .leaving n, times-in n);
       entering = λ n h l. g .entering n h l ∙ sym (times-in n);
+      single = g .single;
     }
   where
     by : (n : ℕ) (b : Bool) (p : List ℕ) → times n p ≡ times n (sinks ps) + times n (named ps) → 1 ≤ times n (sinks ps) + times n (named ps)
