@@ -17,8 +17,8 @@ use Rattle.plan.specs.declared.rules.Around.{Around}
 use Rattle.plan.specs.Visit.{Run, Looked, looked-in, looks-of, options-of, with-options, with-implodes, ruling-of}
 use Rattle.plan.proofs.Settling.{ruled-step}
 use Rattle.plan.proofs.ListLaws.{sum-append}
-use Rattle.plan.proofs.Counts.{sum-eq}
-use Rattle.claims.proofs.Sums.{sum-part, sum-set, sum-set-le, sum-beside, mark, below-one}
+use Rattle.plan.proofs.Counts.{sum-eq, only}
+use Rattle.claims.proofs.Sums.{sum-part, sum-set, sum-set-le, sum-beside, below-one}
 use Rattle.claims.proofs.Loads.{load, load-own}
 use Rattle.claims.proofs.Changes.{earlier-of, changed-formed, changed-length, changed-loads}
 use Rattle.claims.proofs.Implodes.{Inside, still-to-append, appended-count}
@@ -53,46 +53,46 @@ module _ (r : Run) (sound : Sound r) (n : ℕ) where
   es′ = l .start .expr-arena
 
   -- a record in none of the visit's trees keeps its scalar flag, and so does an agg
-  scalars-kept : (q : ℕ) → (step-load (mark q) es′ (l .step) ≡ 0) ⊎ List·Memᴰ q (l .step .aggs) → scalar-at (l .end) q ≡ scalar-at (l .start) q
+  scalars-kept : (q : ℕ) → (step-load (only q) es′ (l .step) ≡ 0) ⊎ List·Memᴰ q (l .step .aggs) → scalar-at (l .end) q ≡ scalar-at (l .start) q
   unfolding looked-in looks-of
   scalars-kept q k =
       let a = exprs-spent r sound n in
       let b = aggs-spent r sound n in
       let g′ = imploded-start r sound n .formed in
-      let less = changed-loads (a .goes .changes) g′ (mark q) (l .step .aggs) in
-      let parts = sum-append (load (mark q) es′) (l .step .exprs) (l .step .aggs) in
+      let less = changed-loads (a .goes .changes) g′ (only q) (l .step .aggs) in
+      let parts = sum-append (load (only q) es′) (l .step .exprs) (l .step .aggs) in
       elim k [
         | inl z ↦
             ap (λ (x : Expr). x .scalar) (b .outside q (omega arith)) ∙ ap (λ (x : Expr). x .scalar) (a .outside q (omega arith))
         | inr m ↦
-            let one : step-load (mark q) es′ (l .step) ≤ 1 = le-trans (once-start r sound n (mark q)) (below-one q (length es′)) in
-            let own : 1 ≤ sum (load (mark q) es′) (l .step .aggs) =
-            omega (arith, load-own es′ (earlier-of es′ g′) q, sum-part (load (mark q) es′) (l .step .aggs) q m) in
+            let one : step-load (only q) es′ (l .step) ≤ 1 = le-trans (once-start r sound n (only q)) (below-one q (length es′)) in
+            let own : 1 ≤ sum (load (only q) es′) (l .step .aggs) =
+            omega (arith, load-own es′ (earlier-of es′ g′) q, sum-part (load (only q) es′) (l .step .aggs) q m) in
             list-scalar (l .step .aggs) (l .between) (changed-formed (a .goes .changes) g′) q (omega arith) m
             ∙ ap (λ (x : Expr). x .scalar) (a .outside q (omega arith))
       ]
 
   -- an agg of any step is in none of the visit's trees, or is one of its own
   elsewhere-or-own : (x : Step) (q : ℕ) → List·Memᴰ x (set (r .steps) n (l .step)) → List·Memᴰ q (x .aggs)
-      → (step-load (mark q) es′ (l .step) ≡ 0) ⊎ List·Memᴰ q (l .step .aggs)
+      → (step-load (only q) es′ (l .step) ≡ 0) ⊎ List·Memᴰ q (l .step .aggs)
   unfolding looked-in
   elsewhere-or-own x q m k = by (decLt n (length (r .steps)))
     where
-      own : 1 ≤ step-load (mark q) es′ x
+      own : 1 ≤ step-load (only q) es′ x
       own =
           omega (
             arith,
             load-own es′ (earlier-of es′ (imploded-start r sound n .formed)) q,
-            sum-part (load (mark q) es′) (entries x) q (Memᴰ·append-right (x .exprs) k),
+            sum-part (load (only q) es′) (entries x) q (Memᴰ·append-right (x .exprs) k),
           )
 
-      by : Dec (n < length (r .steps)) → (step-load (mark q) es′ (l .step) ≡ 0) ⊎ List·Memᴰ q (l .step .aggs)
+      by : Dec (n < length (r .steps)) → (step-load (only q) es′ (l .step) ≡ 0) ⊎ List·Memᴰ q (l .step .aggs)
       by (yes h) =
           elim (sum-beside (r .steps) n (l .step) x h m) [
             | inl i ↦ inr (subst (λ (y : Step). List·Memᴰ q (y .aggs)) i k)
-            | inr f ↦ inl (omega (arith, f (step-load (mark q) es′), own, once-started r sound n (mark q), below-one q (length es′)))
+            | inr f ↦ inl (omega (arith, f (step-load (only q) es′), own, once-started r sound n (only q), below-one q (length es′)))
           ]
-      by (no h) = inl (no-entries (mark q) es′ _ _ _ _ (List·getD-eq-default (r .steps) no-step (omega arith)))
+      by (no h) = inl (no-entries (only q) es′ _ _ _ _ (List·getD-eq-default (r .steps) no-step (omega arith)))
 
   -- so the looks leave what is still to append, of every step
   looks-leave : (x : Step) → List·Memᴰ x (set (r .steps) n (l .step)) → still-to-append (l .end .expr-arena) x ≡ still-to-append es′ x

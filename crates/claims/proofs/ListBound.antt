@@ -14,8 +14,8 @@ use Rattle.plan.specs.Look.{Eos, Look, look, look-along, simplify-projected-exp
 use Rattle.plan.proofs.ListLaws.{and-left}
 use Rattle.claims.specs.Demand3.{records}
 use Rattle.claims.specs.Limits.{Children-earlier}
-use Rattle.plan.proofs.Counts.{sum-le}
-use Rattle.claims.proofs.Sums.{sum-part, mark}
+use Rattle.plan.proofs.Counts.{sum-le, only}
+use Rattle.claims.proofs.Sums.{sum-part}
 use Rattle.claims.proofs.Loads.{kids, load, size, load-le, load-kids, size-records}
 use Rattle.claims.proofs.RevisitCache.{Cache, seen-in}
 use Rattle.claims.proofs.Changes.{Formed, earlier-of}
@@ -73,7 +73,7 @@ weight-below es c v = by (seen-in c v)
 -- what its looks do to the state, and what they cost: its last look is at an entry
 pub record List-spent (qs : List ℕ) (s s′ : Eos) : Type 0 where
   pub goes : Goes s s′
-  pub outside : (x : ℕ) → sum (load (mark x) (s .expr-arena)) qs ≡ 0 → expr-at (s′ .expr-arena) x ≡ expr-at (s .expr-arena) x
+  pub outside : (x : ℕ) → sum (load (only x) (s .expr-arena)) qs ≡ 0 → expr-at (s′ .expr-arena) x ≡ expr-at (s .expr-arena) x
   pub looks : s′ .tally .looks ≤ s .tally .looks + 2 * sum (size (s .expr-arena)) qs + sum (Φ s) qs
 
 at-most-all : (b : Bool) (c : ℕ) (qs : List ℕ) (w : ℕ → ℕ) → (T b → List·Memᴰ c qs) → (if b then w c else 0) ≤ sum w qs

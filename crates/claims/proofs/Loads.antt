@@ -13,8 +13,8 @@ use Rattle.plan.specs.Sheet.{Expr, no-expr, expr-at}
 use Rattle.plan.specs.Faults.{reach, tree}
 use Rattle.claims.specs.Demand3.{records}
 use Rattle.claims.specs.Limits.{Children-earlier}
-use Rattle.plan.proofs.Counts.{sum-eq, sum-le, sum-concat, sum-ones, stands-in}
-use Rattle.claims.proofs.Sums.{sum-none, mark, mark-own, mark-other}
+use Rattle.plan.proofs.Counts.{sum-eq, sum-le, sum-concat, sum-ones, stands-in, only}
+use Rattle.claims.proofs.Sums.{sum-none, only-own, only-other}
 
 abbrev pub kids : List Expr → ℕ → List ℕ
 kids es p = expr-at es p .children
@@ -49,8 +49,8 @@ pub size-records : (es : List Expr) (qs : List ℕ) → length (records es qs) �
 size-records es qs = sym (sum-ones (records es qs)) ∙ load-records (λ _. 1) es qs
 
 -- a record that the load of a list counts is among its records
-pub among-records : (v : ℕ) (es : List Expr) (qs : List ℕ) → 1 ≤ sum (load (mark v) es) qs → List·Memᴰ v (records es qs)
-among-records v es qs h = stands-in v (records es qs) (rw (load-records (mark v) es qs) h)
+pub among-records : (v : ℕ) (es : List Expr) (qs : List ℕ) → 1 ≤ sum (load (only v) es) qs → List·Memᴰ v (records es qs)
+among-records v es qs h = stands-in v (records es qs) (rw (load-records (only v) es qs) h)
 
 -- weighing less
 pub load-le : (v w : ℕ → ℕ) (es : List Expr) (p : ℕ) → ((q : ℕ) → v q ≤ w q) → load v es p ≤ load w es p
@@ -74,20 +74,20 @@ load-kids w es d p =
     (sum-eq (λ q. load-within p w es q) (load w es) (kids es p) (λ q m. stable w es d p (suc q) q (d p q m) (le-refl _)))
 
 module _ (es : List Expr) (d : Children-earlier es) where
-  pub load-own : (p : ℕ) → 1 ≤ load (mark p) es p
-  load-own p = omega (arith, load-kids (mark p) es d p, mark-own p)
+  pub load-own : (p : ℕ) → 1 ≤ load (only p) es p
+  load-own p = omega (arith, load-kids (only p) es d p, only-own p)
 
-  pub outside-own : (v p : ℕ) → load (mark v) es p ≡ 0 → v ≢ p
-  outside-own v p h e = let own = subst (λ n. 1 ≤ load (mark n) es p) (sym e) (load-own p) in omega arith
+  pub outside-own : (v p : ℕ) → load (only v) es p ≡ 0 → v ≢ p
+  outside-own v p h e = let own = subst (λ n. 1 ≤ load (only n) es p) (sym e) (load-own p) in omega arith
 
   -- a later record is in no tree
-  later-below : (v f q : ℕ) → q < f → q < v → load (mark v) es q ≡ 0
+  later-below : (v f q : ℕ) → q < f → q < v → load (only v) es q ≡ 0
   later-below v zero q h k = absurd (not-suc-le-zero h)
   later-below v (suc f) q h k =
-      let none = sum-none (load (mark v) es) (kids es q) (λ c m. later-below v f c (omega (arith, d q c m)) (omega (arith, d q c m))) in
-      omega (arith, load-kids (mark v) es d q, mark-other v q (λ e. omega arith))
+      let none = sum-none (load (only v) es) (kids es q) (λ c m. later-below v f c (omega (arith, d q c m)) (omega (arith, d q c m))) in
+      omega (arith, load-kids (only v) es d q, only-other v q (λ e. omega arith))
 
-  pub later-none : (v q : ℕ) → q < v → load (mark v) es q ≡ 0
+  pub later-none : (v q : ℕ) → q < v → load (only v) es q ≡ 0
   later-none v q h = later-below v (suc q) q (le-refl _) h
 
 -- Another record at p ----------------------------------------------------------------------------------------------------

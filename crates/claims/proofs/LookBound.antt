@@ -18,7 +18,8 @@ use Rattle.plan.specs.Sheet.{Expr, no-expr, expr-at}
 use Rattle.plan.specs.Orders.{∅, no-orders, is-empty}
 use Rattle.plan.specs.Look.{Eos, Look, look, look-along, look-along-children, look-again, look-at, look-whole, look-ended, one-look, with-field, with-arena, check-return-cached, is-replaced, before, After, after, in-order, loses-order, switched-off, replace-implode, cache-output, internal-observe, enter-struct, NO-DEORDER}
 use Rattle.plan.proofs.ListLaws.{and-left}
-use Rattle.claims.proofs.Sums.{sum-part, sum-none, mark}
+use Rattle.claims.proofs.Sums.{sum-part, sum-none}
+use Rattle.plan.proofs.Counts.{only}
 use Rattle.claims.proofs.Loads.{kids, load, size, load-kids, later-none, outside-own}
 use Rattle.claims.proofs.RevisitCache.{seen, seen-still, seen-now, not-seen}
 use Rattle.claims.proofs.Changes.{sort?, implode?, Formed, earlier-of, no-change, goes-off, changes-on, changed-formed, implode-inside}
@@ -110,7 +111,7 @@ module _ (p : ℕ) (s₀ s₃ : Eos) (b : Before) (again : Bool) (c : ℕ) (g : 
     unfolding e qs
     stands =
         a .outside p
-        (sum-none (load (mark p) (s₀ .expr-arena)) qs
+        (sum-none (load (only p) (s₀ .expr-arena)) qs
         (λ q m.
         later-none (s₀ .expr-arena) (earlier-of (s₀ .expr-arena) g) p q
         (g p .earlier q (of-in-order b (kids (s₀ .expr-arena) p) q m))))
@@ -148,7 +149,7 @@ module _ (p : ℕ) (s₀ s₃ : Eos) (b : Before) (again : Bool) (c : ℕ) (g : 
           outside =
               λ x h.
               w .elsewhere x (outside-own (s₀ .expr-arena) (earlier-of (s₀ .expr-arena) g) x p h)
-              ∙ a .outside x (omega (arith, load-before (mark x)));
+              ∙ a .outside x (omega (arith, load-before (only x)));
           scalar = λ _. w .scalar ∙ ap (λ (x : Expr). x .scalar) stands;
           looks =
               looks-after F last whole (w .children ∙ ap (λ (x : Expr). x .children) stands)

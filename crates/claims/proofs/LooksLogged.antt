@@ -19,7 +19,8 @@ use Rattle.plan.specs.Orders.{∅, no-orders, add, single}
 use Rattle.plan.specs.Look.{Eos, Look, before, after, in-order, check-return-cached, is-replaced, replace-by-input, enter-struct, internal-observe, one-look, look, look-along, look-along-children, look-again, look-whole, look-ended, look-at, simplify-projected-exprs, ALLOW-DEORDER, NO-DEORDER}
 use Rattle.plan.proofs.ListLaws.{and-left}
 use Rattle.claims.specs.LooksMade.{Made, made-along, made-again, made-whole, made-at, made, made-in-list}
-use Rattle.claims.proofs.Sums.{sum-part, mark}
+use Rattle.claims.proofs.Sums.{sum-part}
+use Rattle.plan.proofs.Counts.{only}
 use Rattle.claims.proofs.Loads.{kids, load, load-kids, load-own}
 use Rattle.claims.proofs.Changes.{sort?, Formed, earlier-of, Changes, no-change, takes-input, input-formed, changed-formed, changed-load, changed-loads}
 use Rattle.claims.proofs.Potential.{Bounded, spent-along}
@@ -29,7 +30,7 @@ use Rattle.claims.proofs.LookBound.{children-spent, look-spent, replace
 -- of looks at the trees of qs, from s to s′
 pub record Logged (qs : List ℕ) (s s′ : Eos) (log : List ℕ) : Type 0 where
   pub counted : s′ .tally .looks ≡ s .tally .looks + length log
-  pub own : (v : ℕ) → List·Memᴰ v log → 1 ≤ sum (load (mark v) (s .expr-arena)) qs
+  pub own : (v : ℕ) → List·Memᴰ v log → 1 ≤ sum (load (only v) (s .expr-arena)) qs
 
 nothing-logged : (qs : List ℕ) (s : Eos) → Logged qs s s []
 nothing-logged qs s = record { counted = omega arith; own = λ v m. absurd (List·Memᴰ·not-nil m) }
@@ -43,10 +44,10 @@ logged-both {s} {s₁} {s₂} {log} {log₁} l m qs g c i j a b =
       counted = omega (arith, length-append log log₁, a .counted, b .counted);
       own =
           λ v k.
-          let w = load (mark v) (s .expr-arena) in
+          let w = load (only v) (s .expr-arena) in
           elim (List·Memᴰ·append-cases log k) [
             | inl k₁ ↦ le-trans (a .own v k₁) (i w)
-            | inr k₁ ↦ le-trans (b .own v k₁) (le-trans (changed-loads c g (mark v) m) (j w))
+            | inr k₁ ↦ le-trans (b .own v k₁) (le-trans (changed-loads c g (only v) m) (j w))
           ];
     }
 
@@ -71,7 +72,7 @@ module _ (rec : Look) (made : Made) (B : Bounded rec) (L : Logs rec made) where
       let a = L ALLOW-DEORDER (x .«last_ordered_node») s g in
       record {
         counted = a .counted;
-        own = λ v k. omega (arith, a .own v k, sum-part (load (mark v) (s .expr-arena)) qs (x .«last_ordered_node») (m tt));
+        own = λ v k. omega (arith, a .own v k, sum-part (load (only v) (s .expr-arena)) qs (x .«last_ordered_node») (m tt));
       }
 
   -- the looks at the children of p, one of them again or not
@@ -120,7 +121,7 @@ module _ (rec : Look) (made : Made) (B : Bounded rec) (L : Logs rec made) where
       let s₁ = replace-by-input p (expr-at es p) (one-look s₀) in
       let c : Changes (s₁ .expr-arena) es = takes-input p (k tt) no-change in
       let a = L allow p s₁ (input-formed es g p (k tt)) in
-      record { counted = a .counted; own = λ v m. omega (arith, a .own v m, changed-load c g (mark v) p) }
+      record { counted = a .counted; own = λ v m. omega (arith, a .own v m, changed-load c g (only v) p) }
   at-logged allow p s₀ g none false k =
       let es = s₀ .expr-arena in
       let b = before (expr-at es p) allow (expr-at es p .kind) in
@@ -132,8 +133,8 @@ module _ (rec : Look) (made : Made) (B : Bounded rec) (L : Logs rec made) where
             omega (
               arith,
               a .own v m,
-              sum-in-order (load (mark v) es) b (kids es p),
-              load-kids (mark v) es (earlier-of es g) p,
+              sum-in-order (load (only v) es) b (kids es p),
+              load-kids (only v) es (earlier-of es g) p,
             );
       }
 
@@ -153,7 +154,7 @@ look-logged (suc f) allow p s g =
       own =
           λ v m.
           elim (List·Memᴰ·cases-cons m) [
-            | inl i ↦ subst (λ n. 1 ≤ sum (load (mark v) (s .expr-arena)) (n ∷ [])) i (omega (arith, load-own (s .expr-arena) (earlier-of (s .expr-arena) g) v))
+            | inl i ↦ subst (λ n. 1 ≤ sum (load (only v) (s .expr-arena)) (n ∷ [])) i (omega (arith, load-own (s .expr-arena) (earlier-of (s .expr-arena) g) v))
             | inr k ↦ a .own v k
           ];
     }

@@ -16,8 +16,8 @@ use Rattle.plan.proofs.ListLaws.{and-right, of-all, sum-append}
 use Rattle.plan.proofs.FaultLaws.{expr-passes, step-passes}
 use Rattle.claims.specs.WellFormed.{WellFormed}
 use Rattle.plan.proofs.Booleans.{entry-at, all-at}
-use Rattle.plan.proofs.Counts.{mem-concat, sum-concat}
-use Rattle.claims.proofs.Sums.{sum-below, below-le, below-add, mark, mark-own}
+use Rattle.plan.proofs.Counts.{mem-concat, sum-concat, only}
+use Rattle.claims.proofs.Sums.{sum-below, below-le, below-add, only-own}
 use Rattle.claims.proofs.Loads.{kids, load, load-kids}
 use Rattle.claims.proofs.Tables.{sort-has-input}
 use Rattle.claims.proofs.Changes.{Fits, Formed, earlier-of, nothing-fits}
@@ -48,9 +48,9 @@ spread : (L : ℕ → ℕ) (n : ℕ) (l : List ℕ) → ((m : ℕ) → List·Mem
 unfolding sum
 spread L n [] h = omega arith
 spread L n (m ∷ l) h =
-    let a = below-part (λ i. mark i m * L i) n m (h m (List·Memᴰ·head refl)) in
-    let own : mark m m * L m ≡ L m = rw (mark-own m) (omega arith) in
-    let b = below-add (λ i. times i (m ∷ l) * L i) (λ i. mark i m * L i) (λ i. times i l * L i) n (λ i _. omega arith) in
+    let a = below-part (λ i. only i m * L i) n m (h m (List·Memᴰ·head refl)) in
+    let own : only m m * L m ≡ L m = rw (only-own m) (omega arith) in
+    let b = below-add (λ i. times i (m ∷ l) * L i) (λ i. only i m * L i) (λ i. times i l * L i) n (λ i _. omega arith) in
     omega (arith, spread L n l (λ c k. h c (List·Memᴰ·tail k)))
 
 no-more : (L : ℕ → ℕ) (n : ℕ) (l : List ℕ) → ((m : ℕ) → List·Memᴰ m l → m < n) → ((i : ℕ) → i < n → times i l ≤ 1) → sum L l ≤ sum-below L n

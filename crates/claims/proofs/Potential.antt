@@ -15,8 +15,8 @@ use Rattle.plan.specs.Lists.{if_then_else_, sum}
 use Rattle.plan.specs.Sheet.{Expr, no-expr, expr-at}
 use Rattle.plan.specs.Orders.{add}
 use Rattle.plan.specs.Look.{Eos, Look, look-along, look-again, one-look, ALLOW-DEORDER, replace-by-input}
-use Rattle.plan.proofs.Counts.{sum-le}
-use Rattle.claims.proofs.Sums.{sum-part, mark}
+use Rattle.plan.proofs.Counts.{sum-le, only}
+use Rattle.claims.proofs.Sums.{sum-part}
 use Rattle.claims.proofs.Loads.{load, size, load-le, outside-own}
 use Rattle.claims.proofs.RevisitCache.{Cache, seen-in, seen}
 use Rattle.claims.proofs.Changes.{sort?, Formed, earlier-of, Changes, no-change, takes-input, changes-on, changed-formed, changed-load, changed-loads, input-of, input-formed, input-size}
@@ -66,7 +66,7 @@ module _ {s s′ : Eos} (g : Goes s s′) (formed : Formed (s .expr-arena)) wher
 pub record Spent (m : Bool) (p : ℕ) (s s′ : Eos) : Type 0 where
   pub goes : Goes s s′
   -- a record that is not in p's tree stays
-  pub outside : (x : ℕ) → load (mark x) (s .expr-arena) p ≡ 0 → expr-at (s′ .expr-arena) x ≡ expr-at (s .expr-arena) x
+  pub outside : (x : ℕ) → load (only x) (s .expr-arena) p ≡ 0 → expr-at (s′ .expr-arena) x ≡ expr-at (s .expr-arena) x
   -- without leave, p's is not replaced by its input
   pub scalar : T (not m) → expr-at (s′ .expr-arena) p .scalar ≡ expr-at (s .expr-arena) p .scalar
   pub looks : s′ .tally .looks + Φ s′ p ≤ s .tally .looks + size (s .expr-arena) p + Φ s p
@@ -77,7 +77,7 @@ Bounded rec = (m : Bool) (q : ℕ) (s : Eos) → Formed (s .expr-arena) → Spen
 -- of looks along a list
 pub record Spent-along (qs : List ℕ) (s s′ : Eos) : Type 0 where
   pub goes : Goes s s′
-  pub outside : (x : ℕ) → sum (load (mark x) (s .expr-arena)) qs ≡ 0 → expr-at (s′ .expr-arena) x ≡ expr-at (s .expr-arena) x
+  pub outside : (x : ℕ) → sum (load (only x) (s .expr-arena)) qs ≡ 0 → expr-at (s′ .expr-arena) x ≡ expr-at (s .expr-arena) x
   pub looks : s′ .tally .looks + sum (Φ s′) qs ≤ s .tally .looks + sum (size (s .expr-arena)) qs + sum (Φ s) qs
 
 -- one list after another
@@ -89,8 +89,8 @@ spent-both {s} {s₁} {s₂} l m qs g i a b =
       goes = both (a .goes) (b .goes);
       outside =
           λ x h.
-          let in-both = i (load (mark x) (s .expr-arena)) in
-          b .outside x (omega (arith, changed-loads (a .goes .changes) g (mark x) m)) ∙ a .outside x (omega arith);
+          let in-both = i (load (only x) (s .expr-arena)) in
+          b .outside x (omega (arith, changed-loads (a .goes .changes) g (only x) m)) ∙ a .outside x (omega arith);
       looks =
           omega (
             arith,
@@ -138,7 +138,7 @@ replaced-spent rec B true p s₀ g t k =
     let to : Goes s₀ s₁ = record { changes = takes-input p k no-change; keeps = λ q t. t } in
     record {
       goes = both to (a .goes);
-      outside = λ x h. a .outside x (omega (arith, changed-load (to .changes) g (mark x) p)) ∙ getD-set-other es p x (expr-at es (input-of es p)) no-expr (outside-own es (earlier-of es g) x p h);
+      outside = λ x h. a .outside x (omega (arith, changed-load (to .changes) g (only x) p)) ∙ getD-set-other es p x (expr-at es (input-of es p)) no-expr (outside-own es (earlier-of es g) x p h);
       scalar = λ e. absurd e;
       looks = omega (arith, input-size es g p k, Φ-le to g p, a .looks);
     }
@@ -153,7 +153,7 @@ swapped v w h (q ∷ qs) c (List·Memᴰ·tail m) = omega (arith, swapped v w h 
 -- after the children, one of them once more: it costs its size
 pub record Spent-again (qs : List ℕ) (again : Bool) (c : ℕ) (s s′ : Eos) : Type 0 where
   pub goes : Goes s s′
-  pub outside : (x : ℕ) → sum (load (mark x) (s .expr-arena)) qs ≡ 0 → expr-at (s′ .expr-arena) x ≡ expr-at (s .expr-arena) x
+  pub outside : (x : ℕ) → sum (load (only x) (s .expr-arena)) qs ≡ 0 → expr-at (s′ .expr-arena) x ≡ expr-at (s .expr-arena) x
   pub looks : s′ .tally .looks + sum (Φ s′) qs ≤ s .tally .looks + sum (size (s .expr-arena)) qs + sum (Φ s) qs + (if again then size (s .expr-arena) c else 0)
 
 pub spent-again : (rec : Look) → Bounded rec → (again : Bool) (x : ExprOrderAcc) (qs : List ℕ) (s s₂ : Eos) → Formed (s .expr-arena) → Spent-along qs s s₂
@@ -169,6 +169,6 @@ spent-again rec B true x qs s s₂ g a m =
       goes = both (a .goes) (b .goes);
       outside =
           λ y h.
-          b .outside y (omega (arith, changed-load (a .goes .changes) g (mark y) c, sum-part (load (mark y) (s .expr-arena)) qs c (m tt))) ∙ a .outside y h;
+          b .outside y (omega (arith, changed-load (a .goes .changes) g (only y) c, sum-part (load (only y) (s .expr-arena)) qs c (m tt))) ∙ a .outside y h;
       looks = omega (arith, changed-load (a .goes .changes) g (λ _. 1) c, swapped _ _ (Φ-le (b .goes) g₂) qs c (m tt), b .looks, a .looks);
     }

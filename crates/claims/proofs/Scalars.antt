@@ -12,7 +12,8 @@ use Rattle.plan.specs.Lists.{if_then_else_, sum}
 use Rattle.plan.specs.Sheet.{Expr, expr-at}
 use Rattle.plan.specs.Orders.{∅, add, no-orders, single}
 use Rattle.plan.specs.Look.{Eos, Look, look, look-along, look-again, simplify-projected-exprs, internal-observe, NO-DEORDER}
-use Rattle.claims.proofs.Sums.{sum-part, mark}
+use Rattle.claims.proofs.Sums.{sum-part}
+use Rattle.plan.proofs.Counts.{only}
 use Rattle.claims.proofs.Loads.{load, load-own}
 use Rattle.claims.proofs.Changes.{Formed, earlier-of, changed-formed, changed-loads}
 use Rattle.claims.proofs.Potential.{Bounded, spent-along}
@@ -23,7 +24,7 @@ scalar-at s x = expr-at (s .expr-arena) x .scalar
 
 module _ (rec : Look) (B : Bounded rec) (x : ℕ) where
   along-scalar : (qs : List ℕ) (os : List ObservableOrders) (a : ExprOrderAcc) (s : Eos) → Formed (s .expr-arena)
-      → sum (load (mark x) (s .expr-arena)) qs ≤ 1 → List·Memᴰ x qs
+      → sum (load (only x) (s .expr-arena)) qs ≤ 1 → List·Memᴰ x qs
       → scalar-at (look-along rec NO-DEORDER qs os a s .2) x ≡ scalar-at s x
   unfolding look-along sum
   along-scalar [] os a s g h m = absurd (List·Memᴰ·not-nil m)
@@ -34,20 +35,20 @@ module _ (rec : Look) (B : Bounded rec) (x : ℕ) where
       let os₁ = os ++ (rec NO-DEORDER q s .0 ∷ []) in
       let a₁ = add a (rec NO-DEORDER q s .0) q in
       let g₁ = changed-formed (b .goes .changes) g in
-      let less = changed-loads (b .goes .changes) g (mark x) qs in
+      let less = changed-loads (b .goes .changes) g (only x) qs in
       let own = load-own es (earlier-of es g) x in
       elim (List·Memᴰ·cases-cons m) [
         | inl i ↦
-            let here : 1 ≤ load (mark x) es q = subst (λ n. 1 ≤ load (mark x) es n) i own in
+            let here : 1 ≤ load (only x) es q = subst (λ n. 1 ≤ load (only x) es n) i own in
             let later = spent-along rec B NO-DEORDER qs os₁ a₁ s₁ g₁ .outside x (omega arith) in
             ap (λ (e : Expr). e .scalar) later ∙ subst (λ n. scalar-at s₁ n ≡ scalar-at s n) (sym i) (b .scalar tt)
         | inr k ↦
-            let there : 1 ≤ sum (load (mark x) es) qs = omega (arith, sum-part (load (mark x) es) qs x k) in
+            let there : 1 ≤ sum (load (only x) es) qs = omega (arith, sum-part (load (only x) es) qs x k) in
             along-scalar qs os₁ a₁ s₁ g₁ (omega arith) k ∙ ap (λ (e : Expr). e .scalar) (b .outside x (omega arith))
       ]
 
 -- a list that is looked at without leave on top
-pub list-scalar : (qs : List ℕ) (s : Eos) → Formed (s .expr-arena) → (x : ℕ) → sum (load (mark x) (s .expr-arena)) qs ≤ 1 → List·Memᴰ x qs
+pub list-scalar : (qs : List ℕ) (s : Eos) → Formed (s .expr-arena) → (x : ℕ) → sum (load (only x) (s .expr-arena)) qs ≤ 1 → List·Memᴰ x qs
     → scalar-at (simplify-projected-exprs qs false s .1) x ≡ scalar-at s x
 unfolding simplify-projected-exprs look-again
 list-scalar qs s g x h m =

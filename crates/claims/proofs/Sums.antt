@@ -11,6 +11,7 @@ use lib.Dec.{T, eqb, eqb-refl}
 use lib.ListN.{length, getD, set}
 use Rattle.plan.specs.Lists.{if_then_else_, sum}
 use Rattle.plan.proofs.Booleans.{differ}
+use Rattle.plan.proofs.Counts.{only}
 
 module _ {A : Type 0} where
   pub sum-none : (w : A → ℕ) (l : List A) → ((a : A) → List·Memᴰ a l → w a ≡ 0) → sum w l ≡ 0
@@ -63,19 +64,16 @@ module _ {A : Type 0} where
         | inr k ↦ elim (sum-beside l i y x (omega arith) k) [ inl e ↦ inl e | inr f ↦ inr (λ w. omega (arith, f w)) ]
       ]
 
--- the weighing that counts v alone: `times v l` is `sum (mark v) l`
-abbrev pub mark : ℕ → ℕ → ℕ
-mark v m = if eqb v m then 1 else 0
-
-pub mark-own : (v : ℕ) → mark v v ≡ 1
-mark-own v = by (eqb v v) (eqb-refl v)
+-- the weighing `only v` counts v alone: `times v l` is `sum (only v) l`
+pub only-own : (v : ℕ) → only v v ≡ 1
+only-own v = by (eqb v v) (eqb-refl v)
   where
     by : (b : Bool) → T b → _≡_ {A = ℕ} (if b then 1 else 0) 1
     by true t = refl
     by false t = absurd t
 
-pub mark-other : (v m : ℕ) → ¬ (v ≡ m) → mark v m ≡ 0
-mark-other v m n = rw (differ v m n)
+pub only-other : (v m : ℕ) → ¬ (v ≡ m) → only v m ≡ 0
+only-other v m n = rw (differ v m n)
 
 -- over the numbers below n
 unfoldable pub sum-below : (ℕ → ℕ) → ℕ → ℕ
@@ -93,21 +91,21 @@ below-add u v w zero h = refl
 below-add u v w (suc n) h = omega (arith, below-add u v w n (λ i k. h i (omega arith)), h n (omega arith))
 
 -- one number alone: nothing up to it, one past it
-below-none : (v n : ℕ) → n ≤ v → sum-below (mark v) n ≡ 0
+below-none : (v n : ℕ) → n ≤ v → sum-below (only v) n ≡ 0
 unfolding sum-below
 below-none v zero h = refl
-below-none v (suc n) h = omega (arith, below-none v n (omega arith), mark-other v n (λ e. omega arith))
+below-none v (suc n) h = omega (arith, below-none v n (omega arith), only-other v n (λ e. omega arith))
 
-pub below-one : (v n : ℕ) → sum-below (mark v) n ≤ 1
+pub below-one : (v n : ℕ) → sum-below (only v) n ≤ 1
 unfolding sum-below
 below-one v zero = omega arith
 below-one v (suc n) = by (ℕ-discrete v n) (below-one v n)
   where
-    by : Dec (v ≡ n) → sum-below (mark v) n ≤ 1 → sum-below (mark v) n + mark v n ≤ 1
-    by (yes e) h = omega (arith, below-none v n (omega arith), ap (mark v) e, mark-own v)
-    by (no d) h = omega (arith, mark-other v n d)
+    by : Dec (v ≡ n) → sum-below (only v) n ≤ 1 → sum-below (only v) n + only v n ≤ 1
+    by (yes e) h = omega (arith, below-none v n (omega arith), ap (only v) e, only-own v)
+    by (no d) h = omega (arith, only-other v n d)
 
-pub below-if-counted : (v n : ℕ) → 1 ≤ sum-below (mark v) n → v < n
+pub below-if-counted : (v n : ℕ) → 1 ≤ sum-below (only v) n → v < n
 below-if-counted v n h = by (decLt v n)
   where
     by : Dec (v < n) → v < n

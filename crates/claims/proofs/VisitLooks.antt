@@ -12,8 +12,8 @@ use Rattle.plan.specs.Look.{Eos, simplify-projected-exprs}
 use Rattle.plan.specs.Visit.{Run, Looked, looked-in, looks-of, around, options-of, allow-deordering-top}
 use Rattle.plan.proofs.ListLaws.{sum-append}
 use Rattle.claims.specs.Demand3.{records, List-bounded, Looks-bounded}
-use Rattle.plan.proofs.Counts.{times-of}
-use Rattle.claims.proofs.Sums.{sum-part, sum-at, sum-below, below-one, below-if-counted, mark}
+use Rattle.plan.proofs.Counts.{times-of, only}
+use Rattle.claims.proofs.Sums.{sum-part, sum-at, sum-below, below-one, below-if-counted}
 use Rattle.claims.proofs.Loads.{load, load-own, load-records, among-records}
 use Rattle.claims.proofs.Changes.{Formed, earlier-of, Changes, changes-on, changed-formed, changed-length, changed-loads}
 use Rattle.claims.proofs.ListBound.{List-spent, list-spent, list-few}
@@ -28,7 +28,7 @@ Once-in qs es = (w : ℕ → ℕ) → sum (load w es) qs ≤ sum-below w (length
 inside-if-once : (qs : List ℕ) (es : List Expr) → Formed es → Once-in qs es → Inside qs es
 inside-if-once qs es g once q m =
     below-if-counted q (length es)
-    (omega (arith, once (mark q), sum-part (load (mark q) es) qs q m, load-own es (earlier-of es g) q))
+    (omega (arith, once (only q), sum-part (load (only q) es) qs q m, load-own es (earlier-of es g) q))
 
 list-bounded : (qs : List ℕ) (allow : Bool) (s : Eos) → Formed (s .expr-arena) → Once-in qs (s .expr-arena)
     → List-bounded qs allow s (simplify-projected-exprs qs allow s .1)
@@ -36,7 +36,7 @@ list-bounded qs allow s g once =
     let logged = list-logged qs allow s g in
     record {
       few = list-few qs s (simplify-projected-exprs qs allow s .1) g (list-spent qs allow s g);
-      apart = λ p. omega (arith, load-records (mark p) (s .expr-arena) qs, once (mark p), below-one p (length (s .expr-arena)));
+      apart = λ p. omega (arith, load-records (only p) (s .expr-arena) qs, once (only p), below-one p (length (s .expr-arena)));
       counted = logged .counted;
       own = λ p m. among-records p (s .expr-arena) qs (logged .own p m);
     }
@@ -136,12 +136,12 @@ module _ (r : Run) (sound : Sound r) (n : ℕ) where
       omega (
         arith,
         times-of p (records (l .start .expr-arena) (l .step .exprs)) m,
-        load-records (mark p) (l .start .expr-arena) (l .step .exprs),
+        load-records (only p) (l .start .expr-arena) (l .step .exprs),
         times-of p (records es (l .step .aggs)) k,
-        load-records (mark p) es (l .step .aggs),
-        less (mark p),
-        once-start (mark p),
-        sum-append (load (mark p) (l .start .expr-arena)) (l .step .exprs) (l .step .aggs),
+        load-records (only p) es (l .step .aggs),
+        less (only p),
+        once-start (only p),
+        sum-append (load (only p) (l .start .expr-arena)) (l .step .exprs) (l .step .aggs),
         below-one p (length (l .start .expr-arena)),
       )
 

@@ -29,8 +29,8 @@ use Rattle.claims.proofs.Taken.{well-formed}
 use Rattle.reading.specs.Held.{sheet}
 use Rattle.reading.specs.Plan.{plan-of, Plan-is}
 use Rattle.reading.specs.declared.Counts.{Counts}
-use Rattle.reading.specs.declared.Plan.{Plan}
-use Rattle.reading.specs.declared.Plan.the-variants.{Taken, Refused}
+use Rattle.reading.specs.declared.PlanRead.{PlanRead}
+use Rattle.reading.specs.declared.PlanRead.the-variants.{Taken, Refused}
 use Rattle.reading.proofs.Accepted.{Read-plan}
 use Rattle.ir_graph.specs.Built.{Built}
 use Rattle.ir_graph.specs.declared.ir_graph.Graph.{Graph}
@@ -48,11 +48,11 @@ module _ (s output : List ℕ) (room : 16384 ≤ length output) where
   unfolding finish run plan-of refuse_when_else_
   long-call o e = rw (le-ltb (length output) 16384 room, e)
 
-  pub turned-back : (es ps : List ℕ) (r : Plan) (k : ℕ) → Plan-is (plan-of s) es ps r → r ≡ Refused k → call (Answer.Refused k) output ≡ finish s output
+  pub turned-back : (es ps : List ℕ) (r : PlanRead) (k : ℕ) → Plan-is (plan-of s) es ps r → r ≡ Refused k → call (Answer.Refused k) output ≡ finish s output
   unfolding called _then_
   turned-back es ps r k l e = by (plan-of s) refl l
     where
-      which : Plan → ℕ × ℕ
+      which : PlanRead → ℕ × ℕ
       which (Taken c) = (1, 0)
       which (Refused j) = (0, j)
 

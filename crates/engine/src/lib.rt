@@ -9,7 +9,7 @@ ghost use Rattle.engine.specs.Call.{call};
 ghost use Rattle.engine.specs.Demand3.{Demand-3-kept};
 use crate::run::finish_plan;
 use plan::answer::Answer;
-use reading::Plan;
+use reading::PlanRead;
 use reading::read_plan;
 
 pub mod arena; // arena.rt: the arena written out, a record for each line
@@ -28,7 +28,7 @@ pub fn finish(sheet: &[u8], out: &mut [u8]) -> Answer
     let mut exprs: [u8; 2048] = [0; 2048];
     let mut steps: [u8; 1024] = [0; 1024];
     match read_plan(sheet, &mut exprs, &mut steps) {
-        Plan::Refused(k) => Answer::Refused(k),
-        Plan::Taken(c) => finish_plan(&mut exprs, c.exprs, &mut steps, c.steps, out),
+        PlanRead::Refused(k) => Answer::Refused(k),
+        PlanRead::Taken(c) => finish_plan(&mut exprs, c.exprs, &mut steps, c.steps, out),
     }
 }

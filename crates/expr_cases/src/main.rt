@@ -187,8 +187,8 @@ fn agrees(sheet: &[u8], c: Case, b: &[u8]) -> bool
     let mut exprs: [u8; 2048] = [0; 2048];
     let mut steps: [u8; 1024] = [0; 1024];
     match read_plan(sheet, &mut exprs, &mut steps) {
-        reading::Plan::Refused(k) => false,
-        reading::Plan::Taken(k) => list_within(&exprs, k.exprs, c, b),
+        reading::PlanRead::Refused(k) => false,
+        reading::PlanRead::Taken(k) => list_within(&exprs, k.exprs, c, b),
     }
 }
 

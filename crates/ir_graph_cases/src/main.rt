@@ -76,8 +76,8 @@ fn agrees(sheet: &[u8], places: &[u8], edges: &[u8]) -> bool {
     let mut exprs: [u8; 2048] = [0; 2048];
     let mut steps: [u8; 1024] = [0; 1024];
     match read_plan(sheet, &mut exprs, &mut steps) {
-        reading::Plan::Refused(k) => false,
-        reading::Plan::Taken(c) => graph_agrees(&steps, c.steps, places, edges),
+        reading::PlanRead::Refused(k) => false,
+        reading::PlanRead::Taken(c) => graph_agrees(&steps, c.steps, places, edges),
     }
 }
 

@@ -21,7 +21,7 @@ use Rattle.plan.specs.declared.rules.Around.{Around}
 use Rattle.plan.specs.declared.rules.Loosened.{Loosened}
 use Rattle.plan.specs.Visit.{around, is-into, is-out-of, no-edge, out-edge, in-edge, ins-unordered, outs-unordered, loosened, relinked}
 use Rattle.claims.specs.Demand3.{leaving-among}
-use Rattle.node_rules.specs.Held.{producer-of, held-edge, held-edges, around-with, mark}
+use Rattle.node_rules.specs.Held.{producer-of, held-edge, held-edges, around-with, order-mark}
 
 -- one edge more
 pub around-cons : (n : ℕ) (d : Edge) (ds : List Edge) → around n (d ∷ ds) ≡ around-with (is-into n d) (is-out-of n d) (d .unordered) (around n ds)
@@ -124,7 +124,7 @@ module _ {A : Type 0} (d : A) (change : ℕ → A) (old : List A) where
 
 module _ (consumer slot producer : List ℕ) (old : List Bool) (n : ℕ) (l : Loosened) where
   abbrev pub mark-at : ℕ → Bool
-  mark-at j = mark (getD old j false) (eqb (getD consumer j 0) n) (getD slot j 0) (eqb (getD producer j 0) n) l
+  mark-at j = order-mark (getD old j false) (eqb (getD consumer j 0) n) (getD slot j 0) (eqb (getD producer j 0) n) l
 
   pub all-loosened : n < 32 → (new : List Bool) (edges i : ℕ) → edges ≤ i → Changed false mark-at old new i
       → held-edges consumer slot producer new edges ≡ map (loosened n l) (held-edges consumer slot producer old edges)

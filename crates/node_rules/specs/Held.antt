@@ -47,8 +47,8 @@ around-with into out-of u e =
 
 -- Loosening: is an edge unordered afterwards? ------------------------------------------------------------------------------------
 
-abbrev pub mark : Bool → Bool → ℕ → Bool → Loosened → Bool
-mark u into k out-of l = u || (into && (if eqb k 0 then l .in0 else l .later)) || (out-of && l .out)
+abbrev pub order-mark : Bool → Bool → ℕ → Bool → Loosened → Bool
+order-mark u into k out-of l = u || (into && (if eqb k 0 then l .in0 else l .later)) || (out-of && l .out)
 
 -- The steps -----------------------------------------------------------------------------------------------------------------------
 

@@ -4,12 +4,12 @@ ghost use mathlib.Core.List.{map};
 ghost use Prim.Native.Nat.{_≤_, _<_};
 ghost use lib.ListN.{length};
 ghost use Rattle.plan.specs.Visit.{loosened};
-ghost use Rattle.node_rules.specs.Held.{held-edges, mark};
+ghost use Rattle.node_rules.specs.Held.{held-edges, order-mark};
 use plan::rules::Loosened;
 
 // Is an edge unordered after the visit? It is one into slot k of the step, or out of it, or neither.
 fn marked(unordered: bool, into: bool, k: u8, out_of: bool, l: Loosened) -> bool
-    ensures { λ r. ⌜ r ≡ mark unordered into k «out_of» l ⌝ }
+    ensures { λ r. ⌜ r ≡ order-mark unordered into k «out_of» l ⌝ }
 {
     if k == 0 {
         return unordered | (into & l.in0) | (out_of & l.out);

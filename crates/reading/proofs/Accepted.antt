@@ -10,8 +10,8 @@ use Rattle.storage.specs.Stored.{stored-exprs, stored-steps, Steps-held}
 use Rattle.reading.specs.Plan.{plan-of, Plan-is, Plan-held}
 use Rattle.reading.specs.Held.{Exprs-held}
 use Rattle.reading.specs.declared.Counts.{Counts}
-use Rattle.reading.specs.declared.Plan.{Plan}
-use Rattle.reading.specs.declared.Plan.the-variants.{Taken, Refused}
+use Rattle.reading.specs.declared.PlanRead.{PlanRead}
+use Rattle.reading.specs.declared.PlanRead.the-variants.{Taken, Refused}
 
 pub record Read-plan (s es ps : List ℕ) (c : Counts) : Type 0 where
   pub sheet : Sheet
@@ -21,11 +21,11 @@ pub record Read-plan (s es ps : List ℕ) (c : Counts) : Type 0 where
   pub exprs-held : Exprs-held es (c .exprs)
   pub steps-held : Steps-held ps (c .steps)
 
-abbrev counts-in : Plan → ℕ × ℕ × ℕ
+abbrev counts-in : PlanRead → ℕ × ℕ × ℕ
 counts-in (Taken c) = (1, c .exprs, c .steps)
 counts-in (Refused k) = (0, 0, 0)
 
-module _ (s es ps : List ℕ) (r : Plan) (c : Counts) (e : r ≡ Taken c) where
+module _ (s es ps : List ℕ) (r : PlanRead) (c : Counts) (e : r ≡ Taken c) where
   pub read-plan : Plan-is (plan-of s) es ps r → Plan-held es ps r → Read-plan s es ps c
   unfolding plan-of
   read-plan l k = by (plan-of s) refl l

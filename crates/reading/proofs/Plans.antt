@@ -17,8 +17,8 @@ use Rattle.reading.specs.Lines.{Sound, All-taken, Lines-read}
 use Rattle.reading.specs.Plan.{plan-of, checked-plan, Plan-is}
 use Rattle.reading.specs.declared.lines.LineCounts.{LineCounts}
 use Rattle.reading.specs.declared.lines.Lines.{Lines}
-use Rattle.reading.specs.declared.Plan.{Plan}
-use Rattle.reading.specs.declared.Plan.the-variants.{Taken, Refused}
+use Rattle.reading.specs.declared.PlanRead.{PlanRead}
+use Rattle.reading.specs.declared.PlanRead.the-variants.{Taken, Refused}
 use Rattle.reading.specs.Uses.{uses-right}
 use Rattle.reading.proofs.Checks.{no-steps, some-steps}
 
@@ -123,5 +123,5 @@ refused-is s es ps r k l e = subst (λ x. Lines-read s es ps x) e l
 pub read-is : (s es ps : List ℕ) (r : Lines) (t : LineCounts) → Lines-read s es ps r → r ≡ Lines.Read t → All-taken s es ps t
 read-is s es ps r t l e = subst (λ x. Lines-read s es ps x) e l
 
-pub same-plan : (o o′ : Outcome Sheet) (es ps : List ℕ) (r : Plan) → o ≡ o′ → Plan-is o′ es ps r → Plan-is o es ps r
+pub same-plan : (o o′ : Outcome Sheet) (es ps : List ℕ) (r : PlanRead) → o ≡ o′ → Plan-is o′ es ps r → Plan-is o es ps r
 same-plan o o′ es ps r e l = subst (λ x. Plan-is x es ps r) (sym e) l

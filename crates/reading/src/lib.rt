@@ -19,45 +19,45 @@ pub struct Counts {
     pub steps: usize,
 }
 
-pub enum Plan {
+pub enum PlanRead {
     Taken(Counts),
     // The number of document 01's table.
     Refused(u8),
 }
 
 // What is checked once all lines are read: a plan is there, references, uses, struct fields (6 to 9).
-fn check_plan(exprs: &[u8; 2048], count: usize, steps: &[u8; 1024], n: usize) -> Plan
+fn check_plan(exprs: &[u8; 2048], count: usize, steps: &[u8; 1024], n: usize) -> PlanRead
     requires { ⌜ Exprs-held (now exprs) count × Steps-held (now steps) n ⌝ }
     ensures { λ r. ⌜ Plan-is (checked-plan (sheet (now (exprs .entry)) count (now (steps .entry)) n)) (now (exprs .entry)) (now (steps .entry)) r × Plan-held (now (exprs .entry)) (now (steps .entry)) r ⌝ }
 {
     if n == 0 {
-        return Plan::Refused(6);
+        return PlanRead::Refused(6);
     }
     if !crate::references::references_right(exprs, count, steps, n) {
-        return Plan::Refused(7);
+        return PlanRead::Refused(7);
     }
     if !crate::uses::uses_right(exprs, count, steps, n) {
-        return Plan::Refused(8);
+        return PlanRead::Refused(8);
     }
     if !crate::fields::fields_right(exprs, count) {
-        return Plan::Refused(9);
+        return PlanRead::Refused(9);
     }
     let counts = Counts {
         exprs: count,
         steps: n,
     };
-    Plan::Taken(counts)
+    PlanRead::Taken(counts)
 }
 
-// A sheet's plan: its lines stand in the two buffers as plan/specs/Stored says. What the buffers hold after a refusal is left free.
-pub fn read_plan(sheet: &[u8], exprs: &mut [u8; 2048], steps: &mut [u8; 1024]) -> Plan
+// A sheet's plan: its lines stand in the two buffers as storage/specs/Stored says. What the buffers hold after a refusal is left free.
+pub fn read_plan(sheet: &[u8], exprs: &mut [u8; 2048], steps: &mut [u8; 1024]) -> PlanRead
     ensures { λ r. ⌜ Plan-is (plan-of (now (sheet .entry))) (now (exprs .exit)) (now (steps .exit)) r × Plan-held (now (exprs .exit)) (now (steps .exit)) r ⌝ }
 {
     if 16384 < sheet.len() {
-        return Plan::Refused(2);
+        return PlanRead::Refused(2);
     }
     match crate::lines::read_lines(sheet, exprs, steps) {
-        Lines::Refused(k) => Plan::Refused(k),
+        Lines::Refused(k) => PlanRead::Refused(k),
         Lines::Read(t) => {
             size_1024(steps);
             check_plan(exprs, t.exprs, steps, t.steps)

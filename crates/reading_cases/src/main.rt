@@ -1,19 +1,19 @@
 // Sheets through read_plan, and its answer to each, one to a line: the refusal's number, or the counts of E and P lines.
 ghost use Prim.Native.Nat.{_≤_};
 ghost use lib.ListN.{length};
-use reading::Plan;
+use reading::PlanRead;
 
 fn show(sheet: &[u8]) {
     let mut exprs = [0u8; 2048];
     let mut steps = [0u8; 1024];
     match reading::read_plan(sheet, &mut exprs, &mut steps) {
-        Plan::Taken(c) => {
+        PlanRead::Taken(c) => {
             io::write_all(1, b"taken ");
             io::print_decimal(1, c.exprs as u64);
             io::write_all(1, b" ");
             io::print_decimal(1, c.steps as u64);
         }
-        Plan::Refused(k) => {
+        PlanRead::Refused(k) => {
             io::print_decimal(1, k as u64);
         }
     }

@@ -22,7 +22,7 @@ use Rattle.plan.specs.declared.tally.Tally.{Tally}
 use Rattle.expr.specs.Contract.{looked-of}
 use Rattle.expr.specs.Projected.{Started, ListAsks, ListGives}
 use Rattle.expr.specs.State.{State, eos-of, Falls, Formed}
-use Rattle.simplify_ordering.specs.declared.looks.Looked.{Looked}
+use Rattle.simplify_ordering.specs.declared.looks.VisitLooks.{VisitLooks}
 use Rattle.node_rules.specs.declared.steps.Entries.{Entries}
 use Rattle.simplify_ordering.specs.Arena.{Arena-held}
 use Rattle.node_rules.specs.Held.{Is-list}
@@ -172,7 +172,7 @@ module _ (ps : List Step) (i n : ℕ) (e : Around) (es : List Expr) (tally : Tal
         end = rw arena-is (listed .end);
       })
 
-  pub looks-given : (line′ : List ℕ) (off′ : List Bool) (r : Looked)
+  pub looks-given : (line′ : List ℕ) (off′ : List Bool) (r : VisitLooks)
       → Lists-give recs line off m tally (take (exprs .count) (exprs .nodes)) (take (aggs .count) (aggs .nodes)) allow line′ off′ r
       → Looks-give l i n ps steps recs line′ off′ r
   unfolding looks-of

@@ -11,7 +11,7 @@ use Rattle.storage.specs.Stored.{arena-of, stored-steps, Steps-held}
 use Rattle.plan.specs.Visit.{expr-order-simplifier}
 use Rattle.plan.specs.Visit as Visit
 use Rattle.plan.specs.declared.tally.Tally.{Tally}
-use Rattle.simplify_ordering.specs.declared.looks.Looked.{Looked}
+use Rattle.simplify_ordering.specs.declared.looks.VisitLooks.{VisitLooks}
 use Rattle.node_rules.specs.declared.steps.Entries.{Entries}
 use Rattle.simplify_ordering.specs.Arena.{Arena-held}
 use Rattle.node_rules.specs.Held.{Is-list}
@@ -34,7 +34,7 @@ pub record Lists-ask (recs line : List ℕ) (off : List Bool) (n : ℕ) (tally :
   pub end : second xs ys allow (arena-of recs line off n) tally .1 .tally .looks < 2 ^ 64
 
 -- line′ and off′ are the lines afterwards
-pub record Lists-give (recs line : List ℕ) (off : List Bool) (n : ℕ) (tally : Tally) (xs ys : List ℕ) (allow : Bool) (line′ : List ℕ) (off′ : List Bool) (r : Looked) : Type 0 where
+pub record Lists-give (recs line : List ℕ) (off : List Bool) (n : ℕ) (tally : Tally) (xs ys : List ℕ) (allow : Bool) (line′ : List ℕ) (off′ : List Bool) (r : VisitLooks) : Type 0 where
   pub arena : arena-of recs line′ off′ n ≡ second xs ys allow (arena-of recs line off n) tally .1 .expr-arena
   pub held : Arena-held recs line′ off′ n
   pub exprs : r .observable .exprs ≡ first xs allow (arena-of recs line off n) tally .0
@@ -54,7 +54,7 @@ pub record Listed (l : Visit.Looked) : Type 0 where
   pub end : l .end .tally .looks < 2 ^ 64
 
 -- l is the definition's looks, ps are the steps before, and the rest is as they leave it
-pub record Looks-give (l : Visit.Looked) (i n : ℕ) (ps : List Step) (steps recs line : List ℕ) (off : List Bool) (r : Looked) : Type 0 where
+pub record Looks-give (l : Visit.Looked) (i n : ℕ) (ps : List Step) (steps recs line : List ℕ) (off : List Bool) (r : VisitLooks) : Type 0 where
   pub arena : arena-of recs line off (r .exprs) ≡ l .end .expr-arena
   pub held : Arena-held recs line off (r .exprs)
   pub steps-are : stored-steps steps n ≡ set ps i (l .step)

@@ -22,7 +22,7 @@ use plan::rules::Options;
 use plan::tally::Tally;
 
 // What was observed, the tally afterwards, and how many records the arena has.
-pub struct Looked {
+pub struct VisitLooks {
     pub observable: Observable,
     pub tally: Tally,
     pub exprs: usize,
@@ -38,7 +38,7 @@ fn look_at_lists(
     exprs: Entries,
     aggs: Entries,
     allow: bool,
-) -> Looked
+) -> VisitLooks
     requires { ⌜ Lists-ask (now recs) (now line) (now off) n tally (take (exprs .count) (exprs .nodes)) (take (aggs .count) (aggs .nodes)) exprs aggs allow ⌝ }
     ensures { λ r. ⌜ Lists-give (now (recs .entry)) (now (line .entry)) (now (off .entry)) n tally (take (exprs .count) (exprs .nodes)) (take (aggs .count) (aggs .nodes)) allow (now (line .exit)) (now (off .exit)) r ⌝ }
 {
@@ -52,7 +52,7 @@ fn look_at_lists(
     let aggs_observable = end.answer;
     let internal = end.observed;
     let tally_now = end.tally;
-    Looked {
+    VisitLooks {
         observable: Observable {
             exprs: exprs_observable,
             aggs: aggs_observable,
@@ -100,7 +100,7 @@ pub fn looks_of(
     tally: Tally,
     s: Options,
     e: Around,
-) -> Looked
+) -> VisitLooks
     requires { ⌜ Steps-held (now steps) «n_steps» × (i < «n_steps») ⌝ }
     requires { ⌜ Arena-held (now recs) (now line) (now off) n × (s ≡ options-of (step-at (stored-steps (now steps) «n_steps») i)) ⌝ }
     requires { ⌜ ((q : ℕ) → List·Memᴰ q (step-at (stored-steps (now steps) «n_steps») i .aggs) → q < n) ⌝ }
