@@ -13,13 +13,15 @@ use Rattle.expr.specs.declared.after.After.{After}
 use Rattle.expr.specs.declared.after.Output.{Output}
 use Rattle.expr.specs.declared.seen.Seen.{Seen}
 
-abbrev pub output-of : Output → ObservableOrders → ObservableOrders
-output-of (Output.Is o) i = o
-output-of Output.Input i = i
-output-of Output.InputOrIndependent i = i ∪ INDEPENDENT
+-- from the answer where no child is looked at again, and that of the second look
+abbrev pub output-of : ObservableOrders → Output → ObservableOrders → ObservableOrders
+output-of same Output.Same i = same
+output-of same Output.Empty i = ∅
+output-of same Output.Input i = i
+output-of same Output.InputOrIndependent i = i ∪ INDEPENDENT
 
 abbrev pub after-of : After → look.After
-after-of v = look.twice (v .observes) (v .again) (v .answer) (output-of (v .«answer_again»)) (v .caches)
+after-of v = look.twice (v .observes) (v .again) (v .answer) (output-of (v .answer) (v .«answer_again»)) (v .caches)
 
 -- the answers that a record reads
 abbrev pub answers : Seen → List ObservableOrders

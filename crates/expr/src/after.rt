@@ -1,5 +1,6 @@
 // What a record does once its children have answered, by its kind.
 ghost use mathlib.Core.Path.{_≡_};
+ghost use Rattle.plan.specs.declared.orders.ObservableOrders.{ObservableOrders};
 ghost use Rattle.plan.specs.Look.{twice, once, plain, after, function-output};
 ghost use Rattle.expr.specs.Record.{record-of};
 ghost use Rattle.expr.specs.Tables.{output-of, after-of, ternary-output, projected-row, filter-row, ternary-row, function-row, answers};
@@ -12,20 +13,24 @@ use plan::function_flags::FunctionFlags;
 use plan::orders::ExprOrderAcc;
 use plan::orders::ObservableOrders as O;
 
-// An answer from that of the second look.
+// An answer from that of the second look. It takes a byte, so that After takes no more than eight.
 pub enum Output {
-    Is(O),
+    // As where no child is looked at again.
+    Same,
+    Empty,
     // The second look's own.
     Input,
     InputOrIndependent,
 }
 
 impl Output {
-    pub fn of(self, input: O) -> O
-        ensures { λ r. ⌜ r ≡ output-of self input ⌝ }
+    // same: the answer where no child is looked at again. input: that of the second look.
+    pub fn of(self, same: O, input: O) -> O
+        ensures { λ r. ⌜ r ≡ output-of same self input ⌝ }
     {
         match self {
-            Output::Is(o) => o,
+            Output::Same => same,
+            Output::Empty => O::EMPTY,
             Output::Input => input,
             Output::InputOrIndependent => input.union(O::INDEPENDENT),
         }
@@ -45,15 +50,30 @@ pub struct After {
 }
 
 // A Function's output_observable.
-fn function_output(terminates_input_order: bool, non_order_producing: bool) -> Output
-    ensures { λ r. ⌜ output-of r ≡ function-output «terminates_input_order» «non_order_producing» ⌝ }
+fn function_output(terminates_input_order: bool, non_order_producing: bool, input_order: O) -> O
+    ensures { λ r. ⌜ r ≡ function-output «terminates_input_order» «non_order_producing» «input_order» ⌝ }
 {
     if terminates_input_order {
         if non_order_producing {
-            Output::Is(O::EMPTY)
+            O::EMPTY
         } else {
-            Output::Is(O::INDEPENDENT)
+            O::INDEPENDENT
         }
+    } else {
+        if non_order_producing {
+            input_order
+        } else {
+            input_order.union(O::INDEPENDENT)
+        }
+    }
+}
+
+// And from the second look: where the input's order is terminated it is the same.
+fn function_again(terminates_input_order: bool, non_order_producing: bool) -> Output
+    ensures { λ r. ⌜ ((input : ObservableOrders) → output-of (function-output «terminates_input_order» «non_order_producing» input) r ≡ function-output «terminates_input_order» «non_order_producing») ⌝ }
+{
+    if terminates_input_order {
+        Output::Same
     } else {
         if non_order_producing {
             Output::Input
@@ -65,10 +85,10 @@ fn function_output(terminates_input_order: bool, non_order_producing: bool) -> O
 
 // A Ternary's: the predicate's order is not the output's.
 fn ternary_output(of_predicate: bool) -> Output
-    ensures { λ r. ⌜ output-of r ≡ ternary-output «of_predicate» ⌝ }
+    ensures { λ r. ⌜ ((same : ObservableOrders) → output-of same r ≡ ternary-output «of_predicate») ⌝ }
 {
     if of_predicate {
-        Output::Is(O::EMPTY)
+        Output::Empty
     } else {
         Output::Input
     }
@@ -77,7 +97,7 @@ fn ternary_output(of_predicate: bool) -> Output
 impl After {
     // A kind that may look at a child again.
     fn twice(observes: O, again: bool, answer: O, answer_again: Output, caches: bool) -> After
-        ensures { λ r. ⌜ after-of r ≡ twice observes again answer (output-of «answer_again») caches ⌝ }
+        ensures { λ r. ⌜ after-of r ≡ twice observes again answer (output-of answer «answer_again») caches ⌝ }
     {
         After {
             observes: observes,
@@ -92,7 +112,7 @@ impl After {
     fn once(observes: O, answer: O, caches: bool) -> After
         ensures { λ r. ⌜ after-of r ≡ once observes answer caches ⌝ }
     {
-        After::twice(observes, false, answer, Output::Is(answer), caches)
+        After::twice(observes, false, answer, Output::Same, caches)
     }
 
     // And observes nothing and caches nothing.
@@ -119,7 +139,7 @@ impl After {
     {
         let by_alone = o0.is_empty() & !o1.is_empty();
         let again = !x.saw_mixed_inputs & (x.num_ordered_inputs == 1) & by_alone;
-        After::twice(mixed, again, o0, Output::Is(o0), true)
+        After::twice(mixed, again, o0, Output::Same, true)
     }
 
     fn ternary(x: ExprOrderAcc, allow: bool, predicate: u8, branches: O) -> After
@@ -138,7 +158,7 @@ impl After {
         let flags = FunctionFlags { bits: option };
         let observes = flags.observes_input_order();
         let terminates = flags.terminates_input_order();
-        let output = function_output(terminates, flags.non_order_producing());
+        let non_producing = flags.non_order_producing();
         let acc = x.acc;
         let mixed = x.saw_mixed_inputs;
         let again = (x.num_ordered_inputs == 1) & !observes & (allow | terminates);
@@ -146,8 +166,8 @@ impl After {
         After::twice(
             observed.union(pick(mixed, acc, O::EMPTY)),
             again,
-            output.of(acc),
-            output,
+            function_output(terminates, non_producing, acc),
+            function_again(terminates, non_producing),
             mixed | again,
         )
     }

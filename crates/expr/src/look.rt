@@ -190,7 +190,7 @@ pub fn look(
         let node = seen.acc.last_ordered_node as usize;
         let again = look(recs, line, off, cache, n, u, node, true);
         let output = v.answer_again;
-        let o = output.of(again.answer);
+        let o = output.of(v.answer, again.answer);
         return look_ended(off, cache, again, p, e, v, o, field, seen.first);
     }
     look_ended(off, cache, u, p, e, v, v.answer, field, seen.first)

@@ -11,9 +11,6 @@ terminates-input-order-requires c κs = search needs
 non-order-producing-requires : tie.Need-non-order-producing-requires
 non-order-producing-requires c κs = search needs
 
-function-output-requires : tie.Need-function-output-requires
-function-output-requires c κs = search needs
-
 pick-requires : tie.Need-pick-requires
 pick-requires c κs = search needs
 
@@ -23,14 +20,28 @@ pick-requires-2 c κs = search needs
 union-requires : tie.Need-union-requires
 union-requires c κs = search needs
 
-of-requires : tie.Need-of-requires
-of-requires c κs = search needs
+function-output-requires : tie.Need-function-output-requires
+function-output-requires c κs = search needs
+
+function-again-requires : tie.Need-function-again-requires
+function-again-requires c κs = search needs
 
 twice-requires : tie.Need-twice-requires
 twice-requires c κs = search needs
 
 returns : tie.Need-returns
-returns c = rw (c .twice .ensures, c .before .of .ensures, c .before .before .union .ensures, c .before .before .before .pick2 .ensures, c .before .before .before .before .pick .ensures, c .before .before .before .before .before .before .before .function-output .ensures, c .before .before .before .before .before .before .before .before .non-order-producing .ensures, c .before .before .before .before .before .before .before .before .before .terminates-input-order .ensures, c .before .before .before .before .before .before .before .before .before .before .observes-input-order .ensures)
+returns c =
+    rw (
+      c .twice .ensures,
+      c .before .before .function-output .ensures,
+      c .before .function-again .ensures (c .before .before .before .before .before .before .before .before .before .before .before .args .x .acc),
+      c .before .before .before .union .ensures,
+      c .before .before .before .before .pick2 .ensures,
+      c .before .before .before .before .before .pick .ensures,
+      c .before .before .before .before .before .before .before .before .non-order-producing .ensures,
+      c .before .before .before .before .before .before .before .before .before .terminates-input-order .ensures,
+      c .before .before .before .before .before .before .before .before .before .before .observes-input-order .ensures,
+    )
 
 pub function-spec : {M : Type 1} → statement M
 function-spec =
@@ -39,10 +50,10 @@ function-spec =
     observes-input-order-requires
     terminates-input-order-requires
     non-order-producing-requires
-    function-output-requires
     pick-requires
     pick-requires-2
     union-requires
-    of-requires
+    function-output-requires
+    function-again-requires
     twice-requires
     returns)

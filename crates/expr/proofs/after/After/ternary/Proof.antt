@@ -12,7 +12,7 @@ twice-requires : tie.Need-twice-requires
 twice-requires c κs = search needs
 
 returns : tie.Need-returns
-returns c = rw (c .twice .ensures, c .before .pick .ensures, c .before .before .ternary-output .ensures)
+returns c = rw (c .twice .ensures, c .before .pick .ensures, c .before .before .ternary-output .ensures (c .before .before .before .before .before .args .branches))
 
 pub ternary-spec : {M : Type 1} → statement M
 ternary-spec = tie.close (tie.spec ternary-output-requires pick-requires twice-requires returns)
