@@ -1,9 +1,8 @@
 -- Each id of a well-formed sheet has one Cache line.
-use mathlib.Core.Path.{_≡_, ap, sym}
-use Prim.Native.Nat.{ℕ, _<_}
+use mathlib.Core.Path.{_≡_, ap}
+use Prim.Native.Nat.{ℕ}
 use native.Mathlib.Decide.{ℕ-discrete}
 use mathlib.Core.List.{List, List·Memᴰ}
-use lib.ListN.{length}
 use Rattle.plan.specs.declared.ir.IR.{IR}
 use Rattle.plan.specs.Kinds.{ir-number}
 use Rattle.plan.specs.Lists.{numbered}

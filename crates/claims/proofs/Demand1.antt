@@ -21,11 +21,11 @@ use Rattle.plan.specs.Text.{printed}
 use Rattle.plan.specs.Finished.{run, finished, Called, finish, called, too-short, answer-number}
 use Rattle.plan.specs.Conditions.{refusal-numbers, Turned-back}
 use Rattle.plan.proofs.ListLaws.{and-left, and-right, of-all}
-use Rattle.plan.proofs.Outcomes.{both-done, same-value, passed, passed-not}
+use Rattle.plan.proofs.Outcomes.{both-done}
 use Rattle.plan.proofs.Booleans.{all-at}
 use Rattle.plan.proofs.KindNumbers.{same-kind}
 use Rattle.plan.proofs.TurnedBack.{outcome, run-back, comes-back, listed}
-use Rattle.claims.specs.WellFormed.{Accepted, WellFormed}
+use Rattle.claims.specs.WellFormed.{WellFormed}
 use Rattle.claims.specs.Demand1.{Finished-call, Refused-call, Demand-1}
 use Rattle.claims.proofs.Taken.{well-formed}
 use Rattle.claims.proofs.Visits.{walked, places-counted}

@@ -19,7 +19,7 @@ use Rattle.claims.proofs.Loads.{kids, size, load-kids, size-records}
 use Rattle.claims.proofs.Changes.{Formed, earlier-of}
 use Rattle.claims.proofs.ListBound.{list-spent, list-fewer}
 use Rattle.claims.proofs.Once.{entries, step-load, formed-at-start, named-once, once-at-start}
-use Rattle.claims.proofs.VisitLooks.{Once-in, no-load}
+use Rattle.claims.proofs.VisitLooks.{no-load}
 use Rattle.claims.proofs.RunLimits.{below-ones}
 
 -- By the number of records of its trees -----------------------------------------------------------------------------------------
@@ -33,11 +33,6 @@ module _ (qs : List ℕ) (allow : Bool) (s : Eos) (formed : Formed (s .expr-aren
       let b : 2 * simplify-projected-exprs qs allow s .1 .tally .looks ≤ 2 * s .tally .looks + k * (k + 3) =
       rw e at (list-fewer qs s (simplify-projected-exprs qs allow s .1) formed (list-spent qs allow s formed)) in
       omega (arith, b, mul-le-mul h (add-le-add h (le-refl 3)))
-
-  -- a list whose trees are apart, as the lists of a step are
-  pub apart-fits : Once-in qs (s .expr-arena) → length (s .expr-arena) ≤ 128 → s .tally .looks < 2 ^ 63
-      → simplify-projected-exprs qs allow s .1 .tally .looks < 2 ^ 64
-  apart-fits once few start = omega (arith, list-cost 128 (omega (arith, once (λ _. 1), below-ones (length (s .expr-arena)))))
 
 -- Of a well-formed sheet --------------------------------------------------------------------------------------------------------
 

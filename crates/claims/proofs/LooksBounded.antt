@@ -1,13 +1,13 @@
 -- Demand 3, looks: at every visit of both walks.
 use mathlib.Core.Path.{_≡_, refl, ap, sym, subst}
 use mathlib.Core.Logic.{inl, inr}
-use Prim.Native.Nat.{ℕ, _≤_}
+use Prim.Native.Nat.{ℕ}
 use native.Mathlib.Omega.{arith}
 use native.Mathlib.Nat.{le-refl}
 use mathlib.Core.List.{List}
 use lib.ListN.{length, set}
 use Rattle.plan.specs.Lists.{sum}
-use Rattle.plan.specs.Sheet.{Expr, Step, Sheet, done, no-step, step-at}
+use Rattle.plan.specs.Sheet.{Step, Sheet, done, no-step, step-at}
 use Rattle.plan.specs.Graph.{graph}
 use Rattle.plan.specs.Visit.{Run, simplify-ir-node-orders, unlink-node, looked-in, out-edge, ruling-of, settled-by}
 use Rattle.plan.proofs.Settling.{settled, ruled-step}

@@ -5,17 +5,16 @@ use Prim.Native.Nat.{ℕ, zero, suc, _+_, _*_, _≤_, _<_}
 use native.Mathlib.Omega.{arith}
 use native.Mathlib.Nat.{le-refl, le-trans, not-suc-le-zero, mul-le-mul}
 use native.Mathlib.Decide.{decLt}
-use mathlib.Core.Bool.{_&&_}
 use mathlib.Core.List.{List, [], _∷_, _++_, List·Memᴰ, List·Memᴰ·head, List·Memᴰ·tail, List·Memᴰ·append-cases}
-use lib.Dec.{T, eqb, eqb→eq, ltb, leb→le}
+use lib.Dec.{eqb→eq, ltb, leb→le}
 use lib.ListN.{length, getD, List·getD-eq-default}
-use Rattle.plan.specs.Lists.{all?, sum, concat-map, numbered, times}
+use Rattle.plan.specs.Lists.{sum, concat-map, times}
 use Rattle.plan.specs.Sheet.{Expr, Step, Sheet, no-expr, no-step, expr-at, step-at, in-expr-table}
 use Rattle.plan.specs.Faults.{references-right, children-earlier, inputs-earlier, exprs-there, exprs-named, named-right}
 use Rattle.plan.proofs.ListLaws.{and-right, of-all, sum-append}
 use Rattle.plan.proofs.FaultLaws.{expr-passes, step-passes}
 use Rattle.claims.specs.WellFormed.{WellFormed}
-use Rattle.plan.proofs.Booleans.{entry-at, all-at}
+use Rattle.plan.proofs.Booleans.{all-at}
 use Rattle.plan.proofs.Counts.{mem-concat, sum-concat, only}
 use Rattle.claims.proofs.Sums.{sum-below, below-le, below-add, only-own}
 use Rattle.claims.proofs.Loads.{kids, load, load-kids}

@@ -10,14 +10,14 @@ use lib.Dec.{T, eqb, ltb, leb, eqb→eq, leb→le, T-not}
 use lib.ListN.{length, List·getD-eq-default}
 use Rattle.plan.specs.declared.ir.IR.{IR}
 use Rattle.plan.specs.Kinds.{ir-number, same-ir}
-use Rattle.plan.specs.Lists.{if_then_else_, all?, select, sum, numbered, times}
+use Rattle.plan.specs.Lists.{if_then_else_, select, sum, numbered, times}
 use Rattle.plan.specs.Sheet.{Step, Sheet, no-step, step-at, in-step-table}
 use Rattle.plan.specs.Faults.{references-right, inputs-earlier, exprs-there, use-right, named, named-right}
 use Rattle.plan.specs.Graph.{sinks, is-cache}
 use Rattle.plan.proofs.ListLaws.{and-left, and-right, of-all}
 use Rattle.claims.specs.WellFormed.{WellFormed}
 use Rattle.claims.specs.Plan.{Plan}
-use Rattle.plan.proofs.Booleans.{differ, equal, all-at, entry-at}
+use Rattle.plan.proofs.Booleans.{differ, equal, all-at}
 use Rattle.plan.proofs.Counts.{true-of, false-of, T-of, not-both, mem-concat, count-none, times-of, only}
 use Rattle.claims.proofs.StepTable.{sort-has-one-input}
 use Rattle.plan.proofs.KindNumbers.{same-kind, in-range}

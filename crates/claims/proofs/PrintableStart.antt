@@ -10,7 +10,7 @@ use lib.Dec.{T, ltb, ltb→lt}
 use lib.ListN.{length, getD}
 use Rattle.plan.specs.declared.ir.IR.{IR}
 use Rattle.plan.specs.Kinds.{same-ir}
-use Rattle.plan.specs.Lists.{if_then_else_, all?, select, numbered}
+use Rattle.plan.specs.Lists.{if_then_else_, select, numbered}
 use Rattle.plan.specs.Sheet.{Step, Sheet, _then_, no-expr, no-step, expr-at, step-at, in-expr-table, in-step-table}
 use Rattle.plan.specs.Faults.{references-right, inputs-earlier, exprs-there}
 use Rattle.plan.specs.Graph.{Edge, key, build-ir-traversal-graph, graph, grow, popped, following, opens, edges-into, sinks, most-places}
@@ -19,7 +19,7 @@ use Rattle.plan.specs.Walks.{begin}
 use Rattle.plan.proofs.ListLaws.{and-left, of-all}
 use Rattle.plan.proofs.FaultLaws.{step-passes}
 use Rattle.claims.specs.WellFormed.{WellFormed}
-use Rattle.plan.proofs.Booleans.{all-at, entry-at}
+use Rattle.plan.proofs.Booleans.{all-at}
 use Rattle.claims.proofs.Tables.{few-children, small-option, of-step-table}
 use Rattle.claims.proofs.Sizes.{few-steps}
 use Rattle.claims.proofs.Keys.{key-there}

@@ -26,7 +26,6 @@ use Rattle.claims.proofs.Visits.{walked}
 use Rattle.plan.proofs.Counts.{T-of, not-both, mem-at, counted-in, times-of, stands-in, only}
 use Rattle.claims.proofs.Merged.{ordered-graph}
 use Rattle.claims.proofs.MergedPlan.{Keyed, keyed-of}
-use Rattle.plan.proofs.KindNumbers.{in-range}
 use Rattle.claims.proofs.Edges.{edge-at, out-edge-at, leaving-there, leaving-out, unordered-there, walk-looser}
 use Rattle.claims.proofs.Stays.{unsliced-sort, sort-kind, goes-sort, kept-at}
 use Rattle.claims.proofs.Links.{Linked, one-out, linked-visit}

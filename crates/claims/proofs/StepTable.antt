@@ -1,16 +1,15 @@
 -- Steps by their kind: its number, and what refusal 4 leaves of their inputs.
-use mathlib.Core.Path.{_≡_, refl, ap, sym, _∙_, subst}
-use Prim.Native.Nat.{ℕ, suc, _≤_, _<_}
+use mathlib.Core.Path.{_≡_, refl, ap, subst}
+use Prim.Native.Nat.{ℕ, _≤_, _<_}
 use native.Mathlib.Omega.{arith}
 use native.Mathlib.Nat.{not-suc-le-zero}
 use native.Mathlib.Decide.{decLt}
 use mathlib.Core.Bool.{Bool, _&&_}
 use mathlib.Core.List.{List}
-use lib.Dec.{T, leb, eqb→eq, leb→le}
+use lib.Dec.{T, leb, leb→le}
 use lib.ListN.{length, getD, List·getD-eq-default}
 use Rattle.plan.specs.declared.ir.IR.{IR}
-use Rattle.plan.specs.Kinds.{ir, ir-number, same-ir}
-use Rattle.plan.proofs.KindNumbers.{ir-back}
+use Rattle.plan.specs.Kinds.{ir-number}
 use Rattle.plan.specs.Lists.{all?}
 use Rattle.plan.specs.Sheet.{Step, no-step, step-at, step-table, in-step-table}
 use Rattle.plan.proofs.ListLaws.{and-left, and-right}

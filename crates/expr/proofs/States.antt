@@ -93,10 +93,6 @@ kept-copied p c s h k =
     }
 
 module _ (recs : List ℕ) (n : ℕ) (s : State) where
-  pub eos-arena : eos-of recs n s .expr-arena ≡ Rattle.storage.specs.Stored.arena-of recs (s .line) (s .off) n
-  unfolding eos-of
-  eos-arena = refl
-
   pub eos-cache : eos-of recs n s .revisit-cache ≡ cache-of (s .cache)
   unfolding eos-of
   eos-cache = refl

@@ -1,7 +1,7 @@
 -- What a look and a look along the children ask and give.
 use mathlib.Core.Path.{_≡_}
 use Prim.Native.Nat.{ℕ, zero, suc, _≤_, _<_, _^_}
-use mathlib.Core.Bool.{Bool, true}
+use mathlib.Core.Bool.{Bool}
 use mathlib.Core.List.{List}
 use lib.ListN.{length, getD, drop}
 use Rattle.plan.specs.declared.looks.Before.{Before}

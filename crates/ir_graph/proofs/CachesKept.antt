@@ -18,7 +18,6 @@ use Rattle.plan.specs.Walks.{begin, down, up}
 use Rattle.plan.proofs.Settling.{ruling}
 use Rattle.claims.specs.WellFormed.{WellFormed}
 use Rattle.plan.proofs.Booleans.{T-eq, all-at}
-use Rattle.plan.proofs.Outcomes.{both-done}
 use Rattle.claims.proofs.Rules.{ruled-by}
 use Rattle.claims.proofs.StepTable.{cache-has-one-input}
 use Rattle.plan.proofs.KindNumbers.{same-kind, in-range}

@@ -1,8 +1,6 @@
 -- All passes of `checked` as one chain of refusals.
 use mathlib.Core.Path.{_≡_, refl, ap, _∙_}
-use Prim.Native.Nat.{ℕ}
 use mathlib.Core.Bool.{Bool, true, false, not}
-use mathlib.Core.List.{List}
 use Rattle.plan.specs.Lists.{if_then_else_, all?, concat-map, numbered}
 use Rattle.plan.specs.Sheet.{Sheet, done, refuse_when_else_}
 use Rattle.plan.specs.Faults.{lines, references-right, named-right, id-right, field-right, passes, first-fault, refused-by, checked}

@@ -92,6 +92,7 @@ ir-back IR.ExtContext = refl
 ir-back IR.SimpleProjection = refl
 ir-back IR.Cache = refl
 
+-- for the reader, as no proof needs them: the options' tables are numbered as they are listed
 pub keep-strategy-there : (k : ℕ) → k < 4 → keep-strategy-number (keep-strategy k) ≡ k
 keep-strategy-there = by-table keep-strategy-number keep-strategies UniqueKeepStrategy.First tt
 

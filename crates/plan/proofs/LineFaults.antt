@@ -6,7 +6,7 @@ use native.Mathlib.Omega.{arith}
 use native.Mathlib.Decide.{decLt}
 use mathlib.Core.Bool.{Bool, true, false, _&&_, _||_, not}
 use mathlib.Core.List.{List, [], _∷_, _++_, map, List·Memᴰ, List·Memᴰ·head, List·Memᴰ·tail, List·Memᴰ·not-nil}
-use lib.Dec.{T, T-not, not-T, eqb, ltb, leb, eqb→eq, eqb-refl, leb→le, le→leb, nleb→lt, ltb→lt, nltb→le}
+use lib.Dec.{T, T-not, not-T, eqb, ltb, leb, eqb→eq, eqb-refl, leb→le, nleb→lt, ltb→lt, nltb→le}
 use lib.ListN.{length, getD, List·getD-eq-default}
 use Rattle.plan.specs.declared.aexpr.AExpr.{AExpr}
 use Rattle.plan.specs.declared.ir.IR.{IR}

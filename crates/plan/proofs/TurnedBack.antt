@@ -19,7 +19,7 @@ use Rattle.plan.proofs.Counts.{stands-in}
 use Rattle.plan.proofs.FaultLaws.{pass-came, pass-none, pass-stops, pass-goes}
 use Rattle.plan.proofs.Firsts.{Tells, first-wrong, none-wrong, not-all, all-right}
 use Rattle.plan.proofs.LineFaults.{refers-wrong, refers-right, named-wrong, names-right, shares-id, ids-right, field-outside, fields-right}
-use Rattle.plan.proofs.Conditions.{same-number, no-refusal, refuses, goes-on, goes-on-not, Lines-came, parts-came, lines-come, Visit-came, visit-came, join-told, join-of, sink-told, sink-of, join-comes, sink-comes, walk-refused, walk-stops}
+use Rattle.plan.proofs.Conditions.{same-number, no-refusal, refuses, goes-on, Lines-came, parts-came, lines-come, Visit-came, visit-came, join-told, join-of, sink-told, sink-of, join-comes, sink-comes, walk-refused, walk-stops}
 
 -- What a refusal came from --------------------------------------------------------------------------------------------------------------
 

@@ -5,7 +5,7 @@ use native.Mathlib.Omega.{arith}
 use mathlib.Core.Logic.{_≢_}
 use mathlib.Core.Bool.{Bool, false}
 use mathlib.Core.List.{List, List·Memᴰ}
-use lib.ListN.{length, getD, set, take, length-replicate}
+use lib.ListN.{length, getD, set, take}
 use lib.Seq.{set-getD, getD-set-same}
 use borrow.Author.Tests.{eq-eqb, ne-eqb}
 use Rattle.plan.specs.declared.orders.ObservableOrders.{ObservableOrders}

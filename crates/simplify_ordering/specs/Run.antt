@@ -12,7 +12,6 @@ use Rattle.plan.specs.Graph.{Edge}
 use Rattle.storage.specs.Stored.{arena-of, stored-steps, Steps-held}
 use Rattle.plan.specs.Visit.{Run, options-of, with-options, rule, loosened, looked-in}
 use Rattle.plan.specs.declared.tally.Tally.{Tally}
-use Rattle.simplify_ordering.specs.declared.visit.Visit.{Visit}
 use Rattle.simplify_ordering.specs.declared.visit.Visited.{Visited}
 use Rattle.simplify_ordering.specs.Arena.{Arena-held}
 use Rattle.node_rules.specs.Held.{held-edges}
