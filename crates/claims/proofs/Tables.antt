@@ -24,38 +24,38 @@ rows-pass f (x ∷ l) d t k (suc i) = rows-pass f l d (and-right (f x) (all? f l
 
 -- Expressions ----------------------------------------------------------------------------------------------------------------
 
-abbrev row-of : ℕ → ℕ × ℕ × ℕ
-row-of k = getD expr-table k (0, 0, 0)
+abbrev expr-row : ℕ → ℕ × ℕ × ℕ
+expr-row k = getD expr-table k (0, 0, 0)
 
 abbrev small-row : ℕ × ℕ × ℕ → Bool
 small-row (least, most, option) = leb most 8 && leb option 63
 
-rows-small : (k : ℕ) → T (small-row (row-of k))
+rows-small : (k : ℕ) → T (small-row (expr-row k))
 unfolding expr-table all?
 rows-small k = rows-pass small-row expr-table (0, 0, 0) tt tt k
 
 -- the tests of a row, and what they say
 abbrev row-tests : Expr → ℕ → Bool
-row-tests e k = leb (e .option) (row-of k .2) && leb (row-of k .0) (length (e .children)) && leb (length (e .children)) (row-of k .1)
+row-tests e k = leb (e .option) (expr-row k .2) && leb (expr-row k .0) (length (e .children)) && leb (length (e .children)) (expr-row k .1)
 
 record In-row (e : Expr) (k : ℕ) : Type 0 where
-  option : e .option ≤ row-of k .2
-  least : row-of k .0 ≤ length (e .children)
-  most : length (e .children) ≤ row-of k .1
-  small-most : row-of k .1 ≤ 8
-  small-option : row-of k .2 ≤ 63
+  option : e .option ≤ expr-row k .2
+  least : expr-row k .0 ≤ length (e .children)
+  most : length (e .children) ≤ expr-row k .1
+  small-most : expr-row k .1 ≤ 8
+  small-option : expr-row k .2 ≤ 63
 
 in-row : (e : Expr) (k : ℕ) → T (row-tests e k) → In-row e k
 in-row e k t =
-    let a = leb (e .option) (row-of k .2) in
-    let b = leb (row-of k .0) (length (e .children)) in
-    let c = leb (length (e .children)) (row-of k .1) in
+    let a = leb (e .option) (expr-row k .2) in
+    let b = leb (expr-row k .0) (length (e .children)) in
+    let c = leb (length (e .children)) (expr-row k .1) in
     record {
-      option = leb→le (e .option) (row-of k .2) (and-left a b (and-left (a && b) c t));
-      least = leb→le (row-of k .0) (length (e .children)) (and-right a b (and-left (a && b) c t));
-      most = leb→le (length (e .children)) (row-of k .1) (and-right (a && b) c t);
-      small-most = leb→le (row-of k .1) 8 (and-left (leb (row-of k .1) 8) (leb (row-of k .2) 63) (rows-small k));
-      small-option = leb→le (row-of k .2) 63 (and-right (leb (row-of k .1) 8) (leb (row-of k .2) 63) (rows-small k));
+      option = leb→le (e .option) (expr-row k .2) (and-left a b (and-left (a && b) c t));
+      least = leb→le (expr-row k .0) (length (e .children)) (and-right a b (and-left (a && b) c t));
+      most = leb→le (length (e .children)) (expr-row k .1) (and-right (a && b) c t);
+      small-most = leb→le (expr-row k .1) 8 (and-left (leb (expr-row k .1) 8) (leb (expr-row k .2) 63) (rows-small k));
+      small-option = leb→le (expr-row k .2) 63 (and-right (leb (expr-row k .1) 8) (leb (expr-row k .2) 63) (rows-small k));
     }
 
 module _ (e : Expr) (t : T (in-expr-table e)) where
@@ -76,8 +76,8 @@ module _ (e : Expr) (t : T (in-expr-table e)) where
   unfolding expr-table k
   sort-has-input s = by (eqb k 9) (eqb k 10) (eqb→eq k 9) (eqb→eq k 10) s
     where
-      at : (n : ℕ) → k ≡ n → 1 ≤ row-of n .0 → 1 ≤ length (e .children)
-      at n i h = omega (arith, own-row .least, subst (λ m. 1 ≤ row-of m .0) (sym i) h)
+      at : (n : ℕ) → k ≡ n → 1 ≤ expr-row n .0 → 1 ≤ length (e .children)
+      at n i h = omega (arith, own-row .least, subst (λ m. 1 ≤ expr-row m .0) (sym i) h)
 
       by : (a b : Bool) → (T a → k ≡ 9) → (T b → k ≡ 10) → T (a || b) → 1 ≤ length (e .children)
       by true b f g u = at 9 (f tt) (lit≤ tt)

@@ -7,7 +7,7 @@ use lib.Dec.{eqb, ltb, leb}
 use lib.ListN.{getD, length, take, drop}
 use Rattle.plan.specs.declared.aexpr.AExpr.{AExpr}
 use Rattle.plan.specs.declared.ir.IR.{IR}
-use Rattle.plan.specs.Kinds.{aexpr, aexpr-number, same-aexpr, ir, ir-number, same-ir}
+use Rattle.plan.specs.Kinds.{aexprs, aexpr, aexpr-number, same-aexpr, irs, ir, ir-number, same-ir}
 use Rattle.plan.specs.Lists.{if_then_else_, sum, empty?, same, yes?}
 
 -- The records ------------------------------------------------------------------------------------------------------------
@@ -177,7 +177,7 @@ in-expr-table e =
     && (not (same-aexpr (e .kind) AExpr.Over && yes? (e .option)) || leb 2 count)
 
 unfoldable pub expr-fits : List ℕ → Bool
-expr-fits ns = ltb (getD ns 0 0) 25 && leb (getD ns 1 0) 1 && leb (getD ns 2 0) 1 && in-expr-table (expr-of ns)
+expr-fits ns = ltb (getD ns 0 0) (length aexprs) && leb (getD ns 1 0) 1 && leb (getD ns 2 0) 1 && in-expr-table (expr-of ns)
 
 -- a P line's numbers ns: K, a, b, c, n1, n2, n3, then n1 inputs, n2 expressions, n3 expressions
 unfoldable pub step-of : List ℕ → Step
@@ -210,7 +210,7 @@ in-step-table s =
 -- no number is left over or lacking
 unfoldable pub step-fits : List ℕ → Bool
 step-fits ns =
-    ltb (getD ns 0 0) 19 && eqb (length ns) (7 + getD ns 4 0 + getD ns 5 0 + getD ns 6 0) && in-step-table (step-of ns)
+    ltb (getD ns 0 0) (length irs) && eqb (length ns) (7 + getD ns 4 0 + getD ns 5 0 + getD ns 6 0) && in-step-table (step-of ns)
 
 -- One line ---------------------------------------------------------------------------------------------------------------
 
