@@ -1,4 +1,8 @@
 pub mod EdgeLaws
+pub mod InEdges
+pub mod OutEdges
+pub mod Arounds
+pub mod EdgeChanges
 pub mod StoreLaws
 pub mod UnlinkLaws
 pub mod StepLaws

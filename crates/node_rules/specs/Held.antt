@@ -1,7 +1,7 @@
 -- How the code holds the edges of a run.
 use mathlib.Core.Path.{_≡_}
-use Prim.Native.Nat.{ℕ, _+_, _*_, _≤_, _<_}
-use mathlib.Core.Bool.{Bool, true, false, _&&_, _||_}
+use Prim.Native.Nat.{ℕ, _+_, _*_, _-_, _≤_, _<_}
+use mathlib.Core.Bool.{Bool, true, false}
 use mathlib.Core.List.{List, map}
 use mathlib.Core.Option.{Option, none, some}
 use lib.Dec.{eqb}
@@ -10,9 +10,9 @@ use Rattle.plan.specs.Lists.{if_then_else_}
 use Rattle.plan.specs.Sheet.{Step, step-at}
 use Rattle.plan.specs.Graph.{Edge}
 use Rattle.storage.specs.Stored.{table}
-use Rattle.plan.specs.declared.rules.Around.{Around}
 use Rattle.plan.specs.declared.rules.Loosened.{Loosened}
 use Rattle.plan.specs.Visit as Visit
+use Rattle.node_rules.specs.declared.around.InEdges.{InEdges}
 use Rattle.node_rules.specs.declared.steps.Entries.{Entries}
 
 -- Edges: consumer and slot never change; an edge into a removed sort has the producer 255, which is no step's ------------------
@@ -32,23 +32,36 @@ held-edge consumer slot producer unordered k =
 unfoldable pub held-edges : List ℕ → List ℕ → List ℕ → List Bool → ℕ → List Edge
 held-edges consumer slot producer unordered n = table (held-edge consumer slot producer unordered) 0 n
 
--- The edges of a step, one edge more in front of those gone through -------------------------------------------------------------
+-- The edges into a step --------------------------------------------------------------------------------------------------------------
 
--- into and out-of: is the edge one of the step's? u: is it unordered?
-abbrev pub around-with : Bool → Bool → Bool → Around → Around
-around-with into out-of u e =
-    record {
-      ins = if into then u && e .ins else e .ins;
-      in0 = if into then u else e .in0;
-      in1 = if into then e .in0 else e .in1;
-      out = if out-of then u else e .out;
-      outs = if out-of then u && e .outs else e .outs;
-    }
+-- the edges into step n are those from one number up to another
+pub record In-run (consumer : List ℕ) (edges n : ℕ) (d : InEdges) : Type 0 where
+  pub order : d .from ≤ d .to
+  pub fits : d .to ≤ edges
+  pub into : (k : ℕ) → k < edges → getD consumer k 0 ≡ n → (d .from ≤ k) × (k < d .to)
+  pub all : (k : ℕ) → d .from ≤ k → k < d .to → getD consumer k 0 ≡ n
 
--- Loosening: is an edge unordered afterwards? ------------------------------------------------------------------------------------
+-- which of them are unordered
+abbrev pub run-marks : List Bool → InEdges → List Bool
+run-marks unordered d = table (λ k. getD unordered k false) (d .from) (d .to - d .from)
 
-abbrev pub order-mark : Bool → Bool → ℕ → Bool → Loosened → Bool
-order-mark u into k out-of l = u || (into && (if eqb k 0 then l .in0 else l .later)) || (out-of && l .out)
+-- Loosening: the edges into a step, then those out of it ---------------------------------------------------------------------------
+
+abbrev pub ins-of : Loosened → Loosened
+ins-of l = record { in0 = l .in0; later = l .later; out = false }
+
+abbrev pub outs-of : Bool → Loosened
+outs-of out = record { in0 = false; later = false; out = out }
+
+-- Relinking: the edges out of n are produced by `from`, then those into it lose their producer and are unordered ------------------
+
+abbrev pub handed-on : ℕ → Option ℕ → Edge → Edge
+handed-on n from d =
+    if Visit.is-out-of n d then record { consumer = d .consumer; slot = d .slot; producer = from; unordered = d .unordered } else d
+
+abbrev pub cut-off : ℕ → Edge → Edge
+cut-off n d =
+    if Visit.is-into n d then record { consumer = d .consumer; slot = d .slot; producer = none; unordered = true } else d
 
 -- The steps -----------------------------------------------------------------------------------------------------------------------
 

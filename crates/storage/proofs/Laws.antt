@@ -21,14 +21,14 @@ module _ {A : Type 0} (f : ℕ → A) where
   length-table k zero = refl
   length-table k (suc n) = ap suc (length-table (suc k) n)
 
-  from : (k n i : ℕ) (d : A) → i < n → getD (table f k n) i d ≡ f (k + i)
+  pub table-from-at : (k n i : ℕ) (d : A) → i < n → getD (table f k n) i d ≡ f (k + i)
   unfolding table
-  from k zero i d h = absurd (not-suc-le-zero h)
-  from k (suc n) zero d h = ap f (omega arith)
-  from k (suc n) (suc i) d h = from (suc k) n i d (omega arith) ∙ ap f (omega arith)
+  table-from-at k zero i d h = absurd (not-suc-le-zero h)
+  table-from-at k (suc n) zero d h = ap f (omega arith)
+  table-from-at k (suc n) (suc i) d h = table-from-at (suc k) n i d (omega arith) ∙ ap f (omega arith)
 
   pub table-at : (n i : ℕ) (d : A) → i < n → getD (table f 0 n) i d ≡ f i
-  table-at n i d h = from 0 n i d h ∙ ap f (omega arith)
+  table-at n i d h = table-from-at 0 n i d h ∙ ap f (omega arith)
 
   -- one entry more
   pub table-more : (k n : ℕ) → table f k (suc n) ≡ table f k n ++ (f (k + n) ∷ [])

@@ -1,5 +1,9 @@
 use denote.Ref.{now}
 use native.Mathlib.Omega.{arith}
+use mathlib.Core.Path.{ap, _∙_}
+use mathlib.Core.List.{map}
+use Rattle.node_rules.specs.Held.{producer-of, held-edges, cut-off}
+use Rattle.node_rules.proofs.EdgeChanges.{both-relinked}
 use Rattle.node_rules.proofs.UnlinkLaws.{edge-there, its-consumer, its-slot, first-input}
 use borrow.Author.Needs.{needs}
 use Rattle.node_rules.proofs.unlink.unlink_node.Statement.{statement}
@@ -9,18 +13,36 @@ leaving-edge-requires : tie.Need-leaving-edge-requires
 leaving-edge-requires c κs = search needs
 
 element-copy-out-c : tie.Need-element-copy-out-c
-element-copy-out-c c = omega (arith, edge-there (now (c .before .before .before .args .consumer)) (now (c .before .before .before .args .slot)) (now (c .before .before .before .args .producer)) (now (c .before .before .before .args .unordered)) (c .before .before .before .args .edges) (c .before .before .before .args .n) (c .leaving-edge .result) (c .leaving-edge .ensures .0) (c .before .before .before .pre .1 .1 .unordered), c .before .before .before .pre .1 .0 .few)
+element-copy-out-c c =
+    let s = c .before .before in
+    let a = s .args in
+    let k = c .leaving-edge in
+    let there = edge-there (now (a .consumer)) (now (a .slot)) (now (a .producer)) (now (a .unordered)) (a .edges) (a .n) (k .result) (k .ensures .0 (now (a .consumer)) (now (a .slot)) (now (a .unordered))) (s .pre .1 .1 .unordered) in
+    omega (arith, there, s .pre .1 .0 .0 .few)
 
 cast-c : tie.Need-cast-c
-cast-c c = omega (arith, (c .before .before .before .before .pre .1 .0 .there (c .before .leaving-edge .result) (edge-there (now (c .before .before .before .before .args .consumer)) (now (c .before .before .before .before .args .slot)) (now (c .before .before .before .before .args .producer)) (now (c .before .before .before .before .args .unordered)) (c .before .before .before .before .args .edges) (c .before .before .before .before .args .n) (c .before .leaving-edge .result) (c .before .leaving-edge .ensures .0) (c .before .before .before .before .pre .1 .1 .unordered))), c .before .before .before .before .pre .0 .few)
+cast-c c =
+    let s = c .before .before .before in
+    let a = s .args in
+    let k = c .before .leaving-edge in
+    let there = edge-there (now (a .consumer)) (now (a .slot)) (now (a .producer)) (now (a .unordered)) (a .edges) (a .n) (k .result) (k .ensures .0 (now (a .consumer)) (now (a .slot)) (now (a .unordered))) (s .pre .1 .1 .unordered) in
+    omega (arith, s .pre .1 .0 .0 .there (k .result) there, s .pre .0 .few)
 
 element-copy-out-s : tie.Need-element-copy-out-s
-element-copy-out-s c = omega (arith, edge-there (now (c .before .before .before .before .args .consumer)) (now (c .before .before .before .before .args .slot)) (now (c .before .before .before .before .args .producer)) (now (c .before .before .before .before .args .unordered)) (c .before .before .before .before .args .edges) (c .before .before .before .before .args .n) (c .before .leaving-edge .result) (c .before .leaving-edge .ensures .0) (c .before .before .before .before .pre .1 .1 .unordered), c .before .before .before .before .pre .1 .0 .few)
+element-copy-out-s c =
+    let s = c .before .before .before in
+    let a = s .args in
+    let k = c .before .leaving-edge in
+    let there = edge-there (now (a .consumer)) (now (a .slot)) (now (a .producer)) (now (a .unordered)) (a .edges) (a .n) (k .result) (k .ensures .0 (now (a .consumer)) (now (a .slot)) (now (a .unordered))) (s .pre .1 .1 .unordered) in
+    omega (arith, there, s .pre .1 .0 .0 .few)
 
 cast-s : tie.Need-cast-s
 cast-s c =
-    let t = (c .before .before .before .before .before .pre .1 .0 .there (c .before .before .leaving-edge .result) (edge-there (now (c .before .before .before .before .before .args .consumer)) (now (c .before .before .before .before .before .args .slot)) (now (c .before .before .before .before .before .args .producer)) (now (c .before .before .before .before .before .args .unordered)) (c .before .before .before .before .before .args .edges) (c .before .before .before .before .before .args .n) (c .before .before .leaving-edge .result) (c .before .before .leaving-edge .ensures .0) (c .before .before .before .before .before .pre .1 .1 .unordered))) in
-    omega (arith, (c .before .before .before .before .before .pre .1 .0 .slots (c .before .before .leaving-edge .result) (edge-there (now (c .before .before .before .before .before .args .consumer)) (now (c .before .before .before .before .before .args .slot)) (now (c .before .before .before .before .before .args .producer)) (now (c .before .before .before .before .before .args .unordered)) (c .before .before .before .before .before .args .edges) (c .before .before .before .before .before .args .n) (c .before .before .leaving-edge .result) (c .before .before .leaving-edge .ensures .0) (c .before .before .before .before .before .pre .1 .1 .unordered))), c .before .before .before .before .before .pre .0 .formed _ t .n1)
+    let s = c .before .before .before .before in
+    let a = s .args in
+    let k = c .before .before .leaving-edge in
+    let there = edge-there (now (a .consumer)) (now (a .slot)) (now (a .producer)) (now (a .unordered)) (a .edges) (a .n) (k .result) (k .ensures .0 (now (a .consumer)) (now (a .slot)) (now (a .unordered))) (s .pre .1 .1 .unordered) in
+    omega (arith, s .pre .1 .0 .0 .slots (k .result) there, s .pre .0 .formed _ (s .pre .1 .0 .0 .there (k .result) there) .n1)
 
 mul-b : tie.Need-mul-b
 mul-b c = search needs
@@ -32,27 +54,43 @@ element-copy-out-input : tie.Need-element-copy-out-input
 element-copy-out-input c = search needs
 
 store-input-requires : tie.Need-store-input-requires
-store-input-requires c κs = (c .before .before .before .before .before .before .before .pre .0, ((c .before .before .before .before .before .before .before .pre .1 .0 .there (c .before .before .before .before .leaving-edge .result) (edge-there (now (c .before .before .before .before .before .before .before .args .consumer)) (now (c .before .before .before .before .before .before .before .args .slot)) (now (c .before .before .before .before .before .before .before .args .producer)) (now (c .before .before .before .before .before .before .before .args .unordered)) (c .before .before .before .before .before .before .before .args .edges) (c .before .before .before .before .before .before .before .args .n) (c .before .before .before .before .leaving-edge .result) (c .before .before .before .before .leaving-edge .ensures .0) (c .before .before .before .before .before .before .before .pre .1 .1 .unordered))), (c .before .before .before .before .before .before .before .pre .1 .0 .slots (c .before .before .before .before .leaving-edge .result) (edge-there (now (c .before .before .before .before .before .before .before .args .consumer)) (now (c .before .before .before .before .before .before .before .args .slot)) (now (c .before .before .before .before .before .before .before .args .producer)) (now (c .before .before .before .before .before .before .before .args .unordered)) (c .before .before .before .before .before .before .before .args .edges) (c .before .before .before .before .before .before .before .args .n) (c .before .before .before .before .leaving-edge .result) (c .before .before .before .before .leaving-edge .ensures .0) (c .before .before .before .before .before .before .before .pre .1 .1 .unordered)))))
+store-input-requires c κs =
+    let s = c .before .before .before .before .before .before in
+    let a = s .args in
+    let k = c .before .before .before .before .leaving-edge in
+    let there = edge-there (now (a .consumer)) (now (a .slot)) (now (a .producer)) (now (a .unordered)) (a .edges) (a .n) (k .result) (k .ensures .0 (now (a .consumer)) (now (a .slot)) (now (a .unordered))) (s .pre .1 .1 .unordered) in
+    (s .pre .0, (s .pre .1 .0 .0 .there (k .result) there, s .pre .1 .0 .0 .slots (k .result) there))
 
 producer-into-requires : tie.Need-producer-into-requires
 producer-into-requires c κs = search needs
 
-relink-edges-requires : tie.Need-relink-edges-requires
-relink-edges-requires c κs = search needs
+hand-on-requires : tie.Need-hand-on-requires
+hand-on-requires c κs = search needs
+
+cut-off-requires : tie.Need-cut-off-requires
+cut-off-requires c κs = search needs
 
 returns : tie.Need-returns
 returns c =
     let s = c .before .before .before .before .before .before .before .before .before .before .before .before .before .before in
     let a = s .args in
-    let l = c .before .before .before .before .before .before .before .before .before .before .before .leaving-edge in
-    let consumer = its-consumer (now (a .consumer)) (now (a .slot)) (now (a .producer)) (now (a .unordered)) (a .edges) (a .n) (l .result) (l .ensures .0) (s .pre .1 .1 .unordered) in
-    let slot = its-slot (now (a .consumer)) (now (a .slot)) (now (a .producer)) (now (a .unordered)) (a .edges) (a .n) (l .result) (l .ensures .0) (s .pre .1 .1 .unordered) in
-    let input = first-input (now (a .steps)) (a .n-steps) (a .n) (s .pre .1 .1 .step) (s .pre .1 .1 .reads) in (
+    let k = c .before .before .before .before .before .before .before .before .before .before .before .before .leaving-edge in
+    let leaves = k .ensures .0 (now (a .consumer)) (now (a .slot)) (now (a .unordered)) in
+    let consumer = its-consumer (now (a .consumer)) (now (a .slot)) (now (a .producer)) (now (a .unordered)) (a .edges) (a .n) (k .result) leaves (s .pre .1 .1 .unordered) in
+    let slot = its-slot (now (a .consumer)) (now (a .slot)) (now (a .producer)) (now (a .unordered)) (a .edges) (a .n) (k .result) leaves (s .pre .1 .1 .unordered) in
+    let input = first-input (now (a .steps)) (a .n-steps) (a .n) (s .pre .1 .1 .step) (s .pre .1 .1 .reads) in
+    let ds = held-edges (now (a .consumer)) (now (a .slot)) (now (a .producer)) (now (a .unordered)) (a .edges) in
+    let from = c .before .before .before .before .before .producer-into in
+    let put = c .before .before .before .before .before .before .before .store-input .ensures in
+    let handed = c .before .before .before .hand-on .ensures .0 (now (a .consumer)) (now (a .slot)) (now (a .unordered)) in
+    let cut = c .cut-off .ensures .0 (now (a .consumer)) (now (a .slot)) (a .edges) (a .n) (s .pre .1 .0 .1) in (
       record {
-        steps = rw (consumer, slot, input) (c .before .before .before .before .before .before .store-input .ensures .0);
-        edges = rw (← (c .before .before .before .producer-into .ensures)) (c .relink-edges .ensures .0);
+        steps = rw (consumer, slot, input) (put .0);
+        edges =
+            rw (← (from .ensures (now (a .consumer)) (now (a .slot)) (now (a .unordered)) (a .edges) (a .n) (s .pre .1 .0 .1)))
+            (cut ∙ ap (map (cut-off (a .n))) handed ∙ both-relinked (a .n) (producer-of (from .result)) ds);
       },
-      (c .before .before .before .before .before .before .store-input .ensures .1, c .relink-edges .ensures .1),
+      (put .1, (c .cut-off .ensures .1)),
     )
 
 pub unlink-node-spec : {M : Type 1} → statement M
@@ -69,5 +107,6 @@ unlink-node-spec =
     element-copy-out-input
     store-input-requires
     producer-into-requires
-    relink-edges-requires
+    hand-on-requires
+    cut-off-requires
     returns)

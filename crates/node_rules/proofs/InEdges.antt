@@ -1,0 +1,165 @@
+-- The edges into a step are a run of the edges.
+use mathlib.Core.Path.{_≡_, refl, sym, ap, ap₂, _∙_}
+use mathlib.Core.Logic.{_≢_, _⊎_, inl, inr}
+use Prim.Native.Nat.{ℕ, zero, suc, _+_, _-_, _≤_, _<_}
+use native.Mathlib.Omega.{arith}
+use native.Mathlib.Decide.{decLt}
+use borrow.Author.Tests.{eq-eqb, ne-eqb, lt-ltb, le-ltb}
+use mathlib.Core.Bool.{Bool, true, false, _&&_}
+use mathlib.Core.List.{List, [], _∷_, _++_, map, append-nil}
+use lib.Dec.{eqb, ltb}
+use lib.ListN.{length, getD, List·getD-eq-default}
+use Rattle.plan.specs.Lists.{if_then_else_, select, all?}
+use Rattle.plan.specs.Graph.{Edge}
+use Rattle.storage.specs.Stored.{table}
+use Rattle.storage.specs.Edges.{In-a-row}
+use Rattle.storage.proofs.Laws.{length-table, table-from-at, table-more}
+use Rattle.plan.specs.Visit.{is-into, in-edge, ins-unordered, no-edge}
+use Rattle.node_rules.specs.declared.around.InEdges.{InEdges}
+use Rattle.node_rules.specs.Held.{producer-of, held-edge, held-edges, In-run, run-marks}
+use Rattle.node_rules.proofs.EdgeLaws.{map-table, all-last}
+
+-- Finding the run: each edge before `to` is one into n -----------------------------------------------------------------------------
+
+-- gone through up to `to`
+abbrev pub Through : List ℕ → ℕ → ℕ → ℕ → ℕ → Type 0
+Through consumer edges n from to = (from ≤ to) × (to ≤ edges) × ((k : ℕ) → from ≤ k → k < to → getD consumer k 0 ≡ n)
+
+module _ (consumer in-edges : List ℕ) (edges n : ℕ) (rows : In-a-row consumer in-edges edges n) where
+  abbrev first : ℕ
+  first = getD in-edges n 0
+
+  pub through-none : Through consumer edges n first first
+  through-none = (omega arith, rows .few, λ k a b. absurd (omega arith))
+
+  pub through-next : (to : ℕ) → to < edges → getD consumer to 0 ≡ n → Through consumer edges n first to → Through consumer edges n first (to + 1)
+  through-next to h e (a, b, c) = (omega arith, omega arith, λ k l m. by k l m (decLt k to))
+    where
+      by : (k : ℕ) → first ≤ k → k < to + 1 → Dec (k < to) → getD consumer k 0 ≡ n
+      by k l m (yes x) = c k l x
+      by k l m (no x) = let same : k ≡ to = omega (arith, x) in rw same e
+
+  found : (to : ℕ) → Through consumer edges n first to → ((k : ℕ) → to ≤ k → k < edges → getD consumer k 0 ≢ n)
+      → In-run consumer edges n (record { from = first; to = to })
+  found to (a, b, c) none = record { order = a; fits = b; into = λ k h e. (rows .from k h e, by k h e (decLt k to)); all = c }
+    where
+      by : (k : ℕ) → k < edges → getD consumer k 0 ≡ n → Dec (k < to) → k < to
+      by k h e (yes x) = x
+      by k h e (no x) = absurd (none k (omega (arith, x)) h e)
+
+  -- the edge at `to` is none of them, or there is none
+  pub ends-here : (to : ℕ) → Through consumer edges n first to → getD consumer to 0 ≢ n → In-run consumer edges n (record { from = first; to = to })
+  ends-here to t d = found to t (λ k h l e. d (rows .row to k (t .0) h l e))
+
+  pub ends-last : (to : ℕ) → Through consumer edges n first to → edges ≤ to → In-run consumer edges n (record { from = first; to = to })
+  ends-last to t h = found to t (λ k a b e. absurd (omega arith))
+
+-- What is selected by the run -----------------------------------------------------------------------------------------------------
+
+module _ {A : Type 0} (p : A → Bool) (f : ℕ → A) where
+  skipped : (k m n : ℕ) → ((j : ℕ) → k ≤ j → j < k + m → p (f j) ≡ false) → select p (table f k (m + n)) ≡ select p (table f (k + m) n)
+  unfolding select table
+  skipped k zero n h =
+      let here : k ≡ k + 0 = omega arith in
+      let rest : 0 + n ≡ n = omega arith in
+      ap₂ (λ (i j : ℕ). select p (table f i j)) here rest
+  skipped k (suc m) n h =
+      let more : suc m + n ≡ suc (m + n) = omega arith in
+      rw (more, h k (omega arith) (omega arith))
+      (skipped (suc k) m n (λ j a b. h j (omega arith) (omega arith)) ∙ ap (λ (i : ℕ). select p (table f i n)) (omega arith))
+
+  taken : (k m n : ℕ) → ((j : ℕ) → k ≤ j → j < k + m → p (f j) ≡ true)
+      → select p (table f k (m + n)) ≡ table f k m ++ select p (table f (k + m) n)
+  unfolding select table
+  taken k zero n h =
+      let here : k ≡ k + 0 = omega arith in
+      let rest : 0 + n ≡ n = omega arith in
+      ap₂ (λ (i j : ℕ). select p (table f i j)) here rest
+  taken k (suc m) n h =
+      let more : suc m + n ≡ suc (m + n) = omega arith in
+      rw (more, h k (omega arith) (omega arith))
+      (ap (λ (l : List A). f k ∷ l)
+      (taken (suc k) m n (λ j a b. h j (omega arith) (omega arith))
+      ∙ ap (λ (i : ℕ). table f (suc k) m ++ select p (table f i n)) (omega arith)))
+
+  none-taken : (k n : ℕ) → ((j : ℕ) → k ≤ j → j < k + n → p (f j) ≡ false) → select p (table f k n) ≡ []
+  unfolding select table
+  none-taken k zero h = refl
+  none-taken k (suc n) h = rw (h k (omega arith) (omega arith)) (none-taken (suc k) n (λ j a b. h j (omega arith) (omega arith)))
+
+  -- those from a up to b alone
+  pub run-selected : (a b n : ℕ) → a ≤ b → b ≤ n → ((j : ℕ) → j < n → a ≤ j → j < b → p (f j) ≡ true)
+      → ((j : ℕ) → j < n → (j < a) ⊎ (b ≤ j) → p (f j) ≡ false) → select p (table f 0 n) ≡ table f a (b - a)
+  run-selected a b n h l within without =
+      let parts : n ≡ a + ((b - a) + (n - b)) = omega arith in
+      let start : 0 + a ≡ a = omega arith in
+      rw parts
+      (skipped 0 a ((b - a) + (n - b)) (λ j x y. without j (omega arith) (inl (omega arith)))
+      ∙ ap (λ (i : ℕ). select p (table f i ((b - a) + (n - b)))) start
+      ∙ taken a (b - a) (n - b) (λ j x y. within j (omega arith) x (omega arith))
+      ∙ ap (λ (l : List A). table f a (b - a) ++ l)
+      (none-taken (a + (b - a)) (n - b) (λ j x y. without j (omega arith) (inr (omega arith))))
+      ∙ append-nil (table f a (b - a)))
+
+module _ (consumer slot producer : List ℕ) (unordered : List Bool) (edges n : ℕ) (d : InEdges) (run : In-run consumer edges n d) where
+  abbrev edge : ℕ → Edge
+  edge = held-edge consumer slot producer unordered
+
+  pub inside : (j : ℕ) → d .from ≤ j → j < d .to → eqb (getD consumer j 0) n ≡ true
+  inside j a b = eq-eqb (getD consumer j 0) n (run .all j a b)
+
+  pub outside : (j : ℕ) → j < edges → (j < d .from) ⊎ (d .to ≤ j) → eqb (getD consumer j 0) n ≡ false
+  outside j h o = ne-eqb (getD consumer j 0) n (λ e. elim o [ inl x ↦ absurd (omega (arith, run .into j h e .0, x)) | inr x ↦ absurd (omega (arith, run .into j h e .1, x)) ])
+
+  selected : select (is-into n) (held-edges consumer slot producer unordered edges) ≡ table edge (d .from) (d .to - d .from)
+  unfolding held-edges held-edge
+  selected = run-selected (is-into n) edge (d .from) (d .to) edges (run .order) (run .fits) (λ j h a b. inside j a b) outside
+
+  pub ins-are : ins-unordered n (held-edges consumer slot producer unordered edges) ≡ run-marks unordered d
+  unfolding ins-unordered held-edge
+  ins-are = ap (map (λ (x : Edge). x .unordered)) selected ∙ map-table (λ (x : Edge). x .unordered) edge (d .from) (d .to - d .from)
+
+  pub first-in : d .from < d .to → producer-of (getD producer (d .from) 0) ≡ in-edge n (held-edges consumer slot producer unordered edges) .producer
+  unfolding in-edge held-edge
+  first-in h =
+      let zero-more : d .from + 0 ≡ d .from = omega arith in
+      rw (selected, table-from-at edge (d .from) (d .to - d .from) 0 no-edge (omega arith), zero-more)
+
+  pub no-first-in : d .to ≤ d .from → producer-of 255 ≡ in-edge n (held-edges consumer slot producer unordered edges) .producer
+  unfolding in-edge table
+  no-first-in h = let none : d .to - d .from ≡ 0 = omega arith in rw (selected, none)
+
+-- Their marks, one after the other -----------------------------------------------------------------------------------------------------
+
+module _ (unordered : List Bool) (a : ℕ) where
+  -- those from a up to k
+  abbrev pub All-to : ℕ → Bool → Type 0
+  All-to k r = r ≡ all? (λ b. b) (table (λ j. getD unordered j false) a (k - a))
+
+  pub all-none : All-to a true
+  unfolding table all?
+  all-none = let z : a - a ≡ 0 = omega arith in rw z
+
+  pub all-next : (k : ℕ) (r : Bool) → a ≤ k → All-to k r → All-to (k + 1) (r && getD unordered k false)
+  all-next k r h v =
+      let u : ℕ → Bool = λ j. getD unordered j false in
+      let more : k + 1 - a ≡ suc (k - a) = omega arith in
+      let here : a + (k - a) ≡ k = omega arith in
+      ap (λ (b : Bool). b && getD unordered k false) v
+      ∙ sym (rw (more, table-more u a (k - a), here) (all-last (λ (b : Bool). b) (table u a (k - a)) (getD unordered k false)))
+
+-- the i-th mark of a run, if it has one
+pub mark-of : (unordered : List Bool) (d : InEdges) (i : ℕ) → d .from ≤ d .to
+    → getD (run-marks unordered d) i false ≡ (if ltb (d .from + i) (d .to) then getD unordered (d .from + i) false else false)
+mark-of unordered d i h = by (decLt (d .from + i) (d .to))
+  where
+    u : ℕ → Bool
+    u k = getD unordered k false
+
+    by : Dec (d .from + i < d .to)
+        → getD (run-marks unordered d) i false ≡ (if ltb (d .from + i) (d .to) then getD unordered (d .from + i) false else false)
+    by (yes x) = rw (lt-ltb (d .from + i) (d .to) x) (table-from-at u (d .from) (d .to - d .from) i false (omega arith))
+    by (no x) =
+        let none : getD (run-marks unordered d) i false ≡ false =
+        List·getD-eq-default (run-marks unordered d) false (omega (arith, x, length-table u (d .from) (d .to - d .from))) in
+        rw (le-ltb (d .from + i) (d .to) (omega (arith, x))) none
