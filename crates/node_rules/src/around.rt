@@ -19,12 +19,7 @@ pub struct InEdges {
 }
 
 // The edges into n stand in a row, from the one whose number in_edges has.
-pub fn in_edges_of(
-    consumer: &[u8; 256],
-    in_edges: &[u8; 32],
-    edges: usize,
-    n: u8,
-) -> InEdges
+pub fn in_edges_of(consumer: &[u8; 256], in_edges: &[u8; 32], edges: usize, n: u8) -> InEdges
     requires { ⌜ (edges ≤ 256) × (n < 32) × In-a-row (now consumer) (now in_edges) edges n ⌝ }
     ensures { λ r. ⌜ In-run (now (consumer .entry)) edges n r ⌝ }
 {
@@ -62,12 +57,7 @@ fn is_unordered(unordered: &[bool; 256], k: usize, to: usize) -> bool
 }
 
 // Are all edges out of n unordered?
-fn all_out_unordered(
-    producer: &[u8; 256],
-    unordered: &[bool; 256],
-    edges: usize,
-    n: u8,
-) -> bool
+fn all_out_unordered(producer: &[u8; 256], unordered: &[bool; 256], edges: usize, n: u8) -> bool
     requires { ⌜ (edges ≤ 256) × (n < 32) ⌝ }
     ensures { λ r. ⌜ ((consumer slot : List ℕ) → r ≡ outs-unordered n (held-edges consumer slot (now (producer .entry)) (now (unordered .entry)) edges)) ⌝ }
 {

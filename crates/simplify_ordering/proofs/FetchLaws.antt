@@ -114,8 +114,8 @@ set-out {before = before} {after = after} {w = w} {w′ = w′} {r = r} {pushed 
 
 -- The run as the walks set out --------------------------------------------------------------------------------------------------------------
 
-module _ {recs line : List ℕ} {off : List Bool} {m : ℕ} {steps : List ℕ} {n : ℕ} {consumer slot producer : List ℕ} {unordered : List Bool} {edges : ℕ} {list : List ℕ} {places : ℕ}
-    (ask : Fetch-asks recs line off m steps n consumer slot producer unordered edges list places) where
+module _ {recs line : List ℕ} {off : List Bool} {m : ℕ} {steps : List ℕ} {n : ℕ} {consumer slot in-edges producer : List ℕ} {unordered : List Bool} {edges : ℕ} {list : List ℕ} {places : ℕ}
+    (ask : Fetch-asks recs line off m steps n consumer slot in-edges producer unordered edges list places) where
   pub begins : run-of recs line off m steps n consumer slot producer unordered edges [] [] (record { visits = 0; looks = 0 }) ≡ begin (sheet-of recs line off m steps n)
   unfolding begin
   begins = rw (ask .edges-are)

@@ -6,6 +6,7 @@ use mathlib.Core.List.{List, [], _∷_, _++_}
 use lib.ListN.{length, set, take}
 use Rattle.plan.specs.Sheet.{Sheet, Outcome, refused, done}
 use Rattle.plan.specs.Graph.{graph}
+use Rattle.storage.specs.Edges.{In-rows}
 use Rattle.storage.specs.Stored.{arena-of, stored-steps}
 use Rattle.plan.specs.Visit.{Run, simplify-ir-node-orders}
 use Rattle.plan.specs.Walks.{walk, begin, down}
@@ -62,12 +63,13 @@ abbrev pub sheet-of : List ℕ → List ℕ → List Bool → ℕ → List ℕ �
 sheet-of recs line off m steps n = record { exprs = arena-of recs line off m; steps = stored-steps steps n }
 
 -- a well-formed sheet, its visiting list and its edges as they are made
-pub record Fetch-asks (recs line : List ℕ) (off : List Bool) (m : ℕ) (steps : List ℕ) (n : ℕ) (consumer slot producer : List ℕ) (unordered : List Bool) (edges : ℕ) (list : List ℕ) (places : ℕ) : Type 0 where
+pub record Fetch-asks (recs line : List ℕ) (off : List Bool) (m : ℕ) (steps : List ℕ) (n : ℕ) (consumer slot in-edges producer : List ℕ) (unordered : List Bool) (edges : ℕ) (list : List ℕ) (places : ℕ) : Type 0 where
   pub held : Run-held recs line off m steps n producer unordered edges
   pub formed : WellFormed (sheet-of recs line off m steps n)
   pub few : places ≤ 288
   pub places-are : take places list ≡ graph (stored-steps steps n) .0
   pub edges-are : held-edges consumer slot producer unordered edges ≡ graph (stored-steps steps n) .1
+  pub rows : In-rows consumer in-edges edges n
 
 -- the run that both walks leave where one of them is refused: from the outcome of the downward walk
 abbrev pub stopped-by : Sheet → Outcome Run → Run

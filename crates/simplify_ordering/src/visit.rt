@@ -8,13 +8,16 @@ ghost use Rattle.plan.specs.Kinds.{same-ir};
 ghost use Rattle.plan.specs.declared.ir.IR.{IR};
 ghost use Rattle.plan.specs.Lists.{yes?};
 ghost use Rattle.plan.specs.Sheet.{step-at};
+ghost use Rattle.storage.specs.Edges.{In-rows};
 ghost use Rattle.storage.specs.Stored.{stored-steps, Steps-held};
 ghost use Rattle.plan.specs.Visit.{options-of, around, refusal-number, settle, simplify-ir-node-orders};
 ghost use Rattle.claims.specs.Visitable.{Visitable};
-ghost use Rattle.node_rules.specs.Held.{held-edges};
+ghost use Rattle.node_rules.specs.Held.{held-edges, In-run};
 ghost use Rattle.simplify_ordering.specs.Run.{run-of, Run-held, Ruled-by, Comes, Settle-asks};
 use crate::looks::looks_of;
+use node_rules::around::InEdges;
 use node_rules::around::around_step;
+use node_rules::around::in_edges_of;
 use node_rules::loosen::loosen_edges;
 use node_rules::rules::refusal_of;
 use node_rules::rules::rule_of;
@@ -52,11 +55,12 @@ fn settle_by_rule(
     edges: usize,
     n: u8,
     s: Options,
+    d: InEdges,
     e: Around,
     o: Observable,
 ) -> u8
     requires { ⌜ Steps-held (now steps) «n_steps» × (n < «n_steps») × (s ≡ options-of (step-at (stored-steps (now steps) «n_steps») n)) ⌝ }
-    requires { ⌜ (edges ≤ 256) × (length (now unordered) ≡ 256) ⌝ }
+    requires { ⌜ (edges ≤ 256) × (length (now unordered) ≡ 256) × In-run (now consumer) edges n d ⌝ }
     ensures { λ r. ⌜ r ≡ refusal-number (options-of (step-at (stored-steps (now (steps .entry)) «n_steps») n)) o ⌝ }
     ensures { λ r. ⌜ (r ≡ 0 → Ruled-by n e o (stored-steps (now (steps .entry)) «n_steps») (held-edges (now (consumer .entry)) (now (slot .entry)) (now (producer .entry)) (now (unordered .entry)) edges) (stored-steps (now (steps .exit)) «n_steps») (held-edges (now (consumer .entry)) (now (slot .entry)) (now (producer .entry)) (now (unordered .exit)) edges)) ⌝ }
     ensures { λ r. ⌜ ((r ≡ 0 → ⊥) → (now (steps .exit) ≡ now (steps .entry)) × (now (unordered .exit) ≡ now (unordered .entry))) ⌝ }
@@ -70,7 +74,7 @@ fn settle_by_rule(
     let options = r.options;
     let l = r.loosened;
     store_options(steps, n_steps, n as usize, options);
-    loosen_edges(consumer, slot, producer, unordered, edges, n, l);
+    loosen_edges(slot, producer, unordered, edges, n, d, l);
     0
 }
 
@@ -90,10 +94,11 @@ fn settle(
     n: u8,
     tally: Tally,
     s: Options,
+    d: InEdges,
     e: Around,
 ) -> Visit
     requires { ⌜ Run-held (now recs) (now line) (now off) exprs (now steps) «n_steps» (now producer) (now unordered) edges × (n < «n_steps») ⌝ }
-    requires { ⌜ (s ≡ options-of (step-at (stored-steps (now steps) «n_steps») n)) × (e ≡ around n (held-edges (now consumer) (now slot) (now producer) (now unordered) edges)) ⌝ }
+    requires { ⌜ (s ≡ options-of (step-at (stored-steps (now steps) «n_steps») n)) × (e ≡ around n (held-edges (now consumer) (now slot) (now producer) (now unordered) edges)) × In-run (now consumer) edges n d ⌝ }
     requires { ⌜ Settle-asks n (run-of (now recs) (now line) (now off) exprs (now steps) «n_steps» (now consumer) (now slot) (now producer) (now unordered) edges [] [] tally) ⌝ }
     ensures { λ r. ⌜ Comes settle n (λ b d. run-of (now (recs .entry)) (now (line .entry)) (now (off .entry)) exprs (now (steps .entry)) «n_steps» (now (consumer .entry)) (now (slot .entry)) (now (producer .entry)) (now (unordered .entry)) edges b d tally) (λ b d. run-of (now (recs .exit)) (now (line .exit)) (now (off .exit)) (r .exprs) (now (steps .exit)) «n_steps» (now (consumer .entry)) (now (slot .entry)) (now (producer .entry)) (now (unordered .exit)) edges b d (r .tally)) (r .visited) ⌝ }
     ensures { λ r. ⌜ Run-held (now (recs .exit)) (now (line .exit)) (now (off .exit)) (r .exprs) (now (steps .exit)) «n_steps» (now (producer .entry)) (now (unordered .exit)) edges ⌝ }
@@ -112,6 +117,7 @@ fn settle(
         edges,
         n,
         s,
+        d,
         e,
         o,
     );
@@ -146,6 +152,7 @@ pub fn simplify_ir_node_orders(
     n_steps: usize,
     consumer: &[u8; 256],
     slot: &[u8; 256],
+    in_edges: &[u8; 32],
     producer: &mut [u8; 256],
     unordered: &mut [bool; 256],
     edges: usize,
@@ -153,13 +160,14 @@ pub fn simplify_ir_node_orders(
     tally: Tally,
 ) -> Visit
     requires { ⌜ Run-held (now recs) (now line) (now off) exprs (now steps) «n_steps» (now producer) (now unordered) edges ⌝ }
-    requires { ⌜ Visitable n (run-of (now recs) (now line) (now off) exprs (now steps) «n_steps» (now consumer) (now slot) (now producer) (now unordered) edges [] [] tally) ⌝ }
+    requires { ⌜ Visitable n (run-of (now recs) (now line) (now off) exprs (now steps) «n_steps» (now consumer) (now slot) (now producer) (now unordered) edges [] [] tally) × In-rows (now consumer) (now in_edges) edges «n_steps» ⌝ }
     ensures { λ r. ⌜ Comes simplify-ir-node-orders n (λ b d. run-of (now (recs .entry)) (now (line .entry)) (now (off .entry)) exprs (now (steps .entry)) «n_steps» (now (consumer .entry)) (now (slot .entry)) (now (producer .entry)) (now (unordered .entry)) edges b d tally) (λ b d. run-of (now (recs .exit)) (now (line .exit)) (now (off .exit)) (r .exprs) (now (steps .exit)) «n_steps» (now (consumer .entry)) (now (slot .entry)) (now (producer .exit)) (now (unordered .exit)) edges b d (r .tally)) (r .visited) ⌝ }
     ensures { λ r. ⌜ Run-held (now (recs .exit)) (now (line .exit)) (now (off .exit)) (r .exprs) (now (steps .exit)) «n_steps» (now (producer .exit)) (now (unordered .exit)) edges ⌝ }
 {
     let i = n as usize;
     let s = options_of(steps, n_steps, i);
-    let e = around_step(consumer, slot, producer, unordered, edges, n);
+    let d = in_edges_of(consumer, in_edges, edges, n);
+    let e = around_step(producer, unordered, edges, n, d);
     if goes(s, e) {
         unlink_node(
             steps,
@@ -170,6 +178,7 @@ pub fn simplify_ir_node_orders(
             unordered,
             edges,
             n,
+            d,
         );
         return Visit {
             visited: Visited::Removed,
@@ -192,6 +201,7 @@ pub fn simplify_ir_node_orders(
         n,
         tally,
         s,
+        d,
         e,
     )
 }

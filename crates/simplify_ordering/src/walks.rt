@@ -5,6 +5,7 @@ ghost use Prim.Native.Nat.{ℕ, _+_, _-_, _≤_, _<_};
 ghost use lib.ListN.{length, take, drop};
 ghost use Rattle.claims.specs.Visitable.{Visitable};
 ghost use Rattle.plan.specs.Visit.{Run, simplify-ir-node-orders};
+ghost use Rattle.storage.specs.Edges.{In-rows};
 ghost use Rattle.plan.specs.Walks.{simplify-and-fetch-orderings};
 ghost use Rattle.simplify_ordering.specs.Run.{run-of, Run-held, Comes};
 ghost use Rattle.simplify_ordering.specs.Walks.{Placed, Walk-asks, Walk-gives, sheet-of, Fetch-asks, fetch-stopped, Down-gives, Answers, Orderings-are, Orderings-held};
@@ -84,6 +85,7 @@ fn visit_place(
     n_steps: usize,
     consumer: &[u8; 256],
     slot: &[u8; 256],
+    in_edges: &[u8; 32],
     producer: &mut [u8; 256],
     unordered: &mut [bool; 256],
     edges: usize,
@@ -93,7 +95,7 @@ fn visit_place(
 ) -> Walked
     requires { ⌜ Run-held (now recs) (now line) (now off) (w .exprs) (now steps) «n_steps» (now producer) (now unordered) edges ⌝ }
     requires { ⌜ Visitable n (run-of (now recs) (now line) (now off) (w .exprs) (now steps) «n_steps» (now consumer) (now slot) (now producer) (now unordered) edges [] [] (w .tally)) ⌝ }
-    requires { ⌜ (1 ≤ w .at) × (w .at ≤ 288) × (length (now back) ≡ 288) × (w .removed < 18446744073709551615) ⌝ }
+    requires { ⌜ (1 ≤ w .at) × (w .at ≤ 288) × (length (now back) ≡ 288) × (w .removed < 18446744073709551615) × In-rows (now consumer) (now in_edges) edges «n_steps» ⌝ }
     ensures { λ r. ⌜ Placed n (λ b d. run-of (now (recs .entry)) (now (line .entry)) (now (off .entry)) (w .exprs) (now (steps .entry)) «n_steps» (now (consumer .entry)) (now (slot .entry)) (now (producer .entry)) (now (unordered .entry)) edges b d (w .tally)) (λ b d. run-of (now (recs .exit)) (now (line .exit)) (now (off .exit)) (r .exprs) (now (steps .exit)) «n_steps» (now (consumer .entry)) (now (slot .entry)) (now (producer .exit)) (now (unordered .exit)) edges b d (r .tally)) w (now (back .entry)) r (now (back .exit)) ⌝ }
     ensures { λ r. ⌜ Run-held (now (recs .exit)) (now (line .exit)) (now (off .exit)) (r .exprs) (now (steps .exit)) «n_steps» (now (producer .exit)) (now (unordered .exit)) edges ⌝ }
 {
@@ -106,6 +108,7 @@ fn visit_place(
         n_steps,
         consumer,
         slot,
+        in_edges,
         producer,
         unordered,
         edges,
@@ -124,6 +127,7 @@ fn walk(
     n_steps: usize,
     consumer: &[u8; 256],
     slot: &[u8; 256],
+    in_edges: &[u8; 32],
     producer: &mut [u8; 256],
     unordered: &mut [bool; 256],
     edges: usize,
@@ -135,7 +139,7 @@ fn walk(
 ) -> Walked
     requires { ⌜ Run-held (now recs) (now line) (now off) (w .exprs) (now steps) «n_steps» (now producer) (now unordered) edges ⌝ }
     requires { ⌜ Walk-asks (take (to - from) (drop from (now list))) (λ b d. run-of (now recs) (now line) (now off) (w .exprs) (now steps) «n_steps» (now consumer) (now slot) (now producer) (now unordered) edges b d (w .tally)) ⌝ }
-    requires { ⌜ (from ≤ to) × (to ≤ 288) × (length (now list) ≡ 288) × (length (now back) ≡ 288) × (w .refused ≡ 0) × (w .at ≡ 288) × (w .removed ≤ 288) ⌝ }
+    requires { ⌜ (from ≤ to) × (to ≤ 288) × (length (now list) ≡ 288) × (length (now back) ≡ 288) × (w .refused ≡ 0) × (w .at ≡ 288) × (w .removed ≤ 288) × In-rows (now consumer) (now in_edges) edges «n_steps» ⌝ }
     ensures { λ r. ⌜ Walk-gives (take (to - from) (drop from (now (list .entry)))) (λ b d. run-of (now (recs .entry)) (now (line .entry)) (now (off .entry)) (w .exprs) (now (steps .entry)) «n_steps» (now (consumer .entry)) (now (slot .entry)) (now (producer .entry)) (now (unordered .entry)) edges b d (w .tally)) (λ b d. run-of (now (recs .exit)) (now (line .exit)) (now (off .exit)) (r .exprs) (now (steps .exit)) «n_steps» (now (consumer .entry)) (now (slot .entry)) (now (producer .exit)) (now (unordered .exit)) edges b d (r .tally)) w r (drop (r .at) (now (back .exit))) ⌝ }
     ensures { λ r. ⌜ Run-held (now (recs .exit)) (now (line .exit)) (now (off .exit)) (r .exprs) (now (steps .exit)) «n_steps» (now (producer .exit)) (now (unordered .exit)) edges ⌝ }
     ensures { λ r. ⌜ (length (now (back .exit)) ≡ 288) × (r .at ≤ 288) × (r .removed ≤ w .removed + (to - from)) ⌝ }
@@ -154,6 +158,7 @@ fn walk(
             n_steps,
             consumer,
             slot,
+            in_edges,
             producer,
             unordered,
             edges,
@@ -176,6 +181,7 @@ fn walk_down(
     n_steps: usize,
     consumer: &[u8; 256],
     slot: &[u8; 256],
+    in_edges: &[u8; 32],
     producer: &mut [u8; 256],
     unordered: &mut [bool; 256],
     edges: usize,
@@ -183,7 +189,7 @@ fn walk_down(
     places: usize,
     back: &mut [u8; 288],
 ) -> Walked
-    requires { ⌜ Fetch-asks (now recs) (now line) (now off) exprs (now steps) «n_steps» (now consumer) (now slot) (now producer) (now unordered) edges (now list) places ⌝ }
+    requires { ⌜ Fetch-asks (now recs) (now line) (now off) exprs (now steps) «n_steps» (now consumer) (now slot) (now in_edges) (now producer) (now unordered) edges (now list) places ⌝ }
     requires { ⌜ length (now back) ≡ 288 ⌝ }
     ensures { λ r. ⌜ Down-gives (sheet-of (now (recs .entry)) (now (line .entry)) (now (off .entry)) exprs (now (steps .entry)) «n_steps») (λ b d. run-of (now (recs .exit)) (now (line .exit)) (now (off .exit)) (r .exprs) (now (steps .exit)) «n_steps» (now (consumer .entry)) (now (slot .entry)) (now (producer .exit)) (now (unordered .exit)) edges b d (r .tally)) r (drop (r .at) (now (back .exit))) ⌝ }
     ensures { λ r. ⌜ Run-held (now (recs .exit)) (now (line .exit)) (now (off .exit)) (r .exprs) (now (steps .exit)) «n_steps» (now (producer .exit)) (now (unordered .exit)) edges ⌝ }
@@ -208,6 +214,7 @@ fn walk_down(
         n_steps,
         consumer,
         slot,
+        in_edges,
         producer,
         unordered,
         edges,
@@ -228,6 +235,7 @@ fn walk_back(
     n_steps: usize,
     consumer: &[u8; 256],
     slot: &[u8; 256],
+    in_edges: &[u8; 32],
     producer: &mut [u8; 256],
     unordered: &mut [bool; 256],
     edges: usize,
@@ -236,7 +244,7 @@ fn walk_back(
 ) -> Walked
     requires { ⌜ Run-held (now recs) (now line) (now off) (down .exprs) (now steps) «n_steps» (now producer) (now unordered) edges ⌝ }
     requires { ⌜ Walk-asks (drop (down .at) (now back)) (λ b d. run-of (now recs) (now line) (now off) (down .exprs) (now steps) «n_steps» (now consumer) (now slot) (now producer) (now unordered) edges b d (down .tally)) ⌝ }
-    requires { ⌜ (length (now back) ≡ 288) × (down .at ≤ 288) × (down .removed ≤ 288) ⌝ }
+    requires { ⌜ (length (now back) ≡ 288) × (down .at ≤ 288) × (down .removed ≤ 288) × In-rows (now consumer) (now in_edges) edges «n_steps» ⌝ }
     ensures { λ r. ⌜ ((pushed : List ℕ) × Walk-gives (drop (down .at) (now (back .entry))) (λ b d. run-of (now (recs .entry)) (now (line .entry)) (now (off .entry)) (down .exprs) (now (steps .entry)) «n_steps» (now (consumer .entry)) (now (slot .entry)) (now (producer .entry)) (now (unordered .entry)) edges b d (down .tally)) (λ b d. run-of (now (recs .exit)) (now (line .exit)) (now (off .exit)) (r .exprs) (now (steps .exit)) «n_steps» (now (consumer .entry)) (now (slot .entry)) (now (producer .exit)) (now (unordered .exit)) edges b d (r .tally)) down r pushed) ⌝ }
     ensures { λ r. ⌜ Run-held (now (recs .exit)) (now (line .exit)) (now (off .exit)) (r .exprs) (now (steps .exit)) «n_steps» (now (producer .exit)) (now (unordered .exit)) edges ⌝ }
 {
@@ -257,6 +265,7 @@ fn walk_back(
         n_steps,
         consumer,
         slot,
+        in_edges,
         producer,
         unordered,
         edges,
@@ -294,13 +303,14 @@ pub fn simplify_and_fetch_orderings(
     n_steps: usize,
     consumer: &[u8; 256],
     slot: &[u8; 256],
+    in_edges: &[u8; 32],
     producer: &mut [u8; 256],
     unordered: &mut [bool; 256],
     edges: usize,
     list: &[u8; 288],
     places: usize,
 ) -> Orderings
-    requires { ⌜ Fetch-asks (now recs) (now line) (now off) exprs (now steps) «n_steps» (now consumer) (now slot) (now producer) (now unordered) edges (now list) places ⌝ }
+    requires { ⌜ Fetch-asks (now recs) (now line) (now off) exprs (now steps) «n_steps» (now consumer) (now slot) (now in_edges) (now producer) (now unordered) edges (now list) places ⌝ }
     ensures { λ r. ⌜ Orderings-are (simplify-and-fetch-orderings (sheet-of (now (recs .entry)) (now (line .entry)) (now (off .entry)) exprs (now (steps .entry)) «n_steps»)) (λ m b d t. run-of (now (recs .exit)) (now (line .exit)) (now (off .exit)) m (now (steps .exit)) «n_steps» (now (consumer .entry)) (now (slot .entry)) (now (producer .exit)) (now (unordered .exit)) edges b d t) r ⌝ }
     ensures { λ r. ⌜ Orderings-held (λ m. Run-held (now (recs .exit)) (now (line .exit)) (now (off .exit)) m (now (steps .exit)) «n_steps» (now (producer .exit)) (now (unordered .exit)) edges) (fetch-stopped (sheet-of (now (recs .entry)) (now (line .entry)) (now (off .entry)) exprs (now (steps .entry)) «n_steps»)) (λ m b d t. run-of (now (recs .exit)) (now (line .exit)) (now (off .exit)) m (now (steps .exit)) «n_steps» (now (consumer .entry)) (now (slot .entry)) (now (producer .exit)) (now (unordered .exit)) edges b d t) r ⌝ }
 {
@@ -314,6 +324,7 @@ pub fn simplify_and_fetch_orderings(
         n_steps,
         consumer,
         slot,
+        in_edges,
         producer,
         unordered,
         edges,
@@ -332,6 +343,7 @@ pub fn simplify_and_fetch_orderings(
         n_steps,
         consumer,
         slot,
+        in_edges,
         producer,
         unordered,
         edges,

@@ -10,3 +10,7 @@ pub record In-a-row (consumer in-edges : List ℕ) (edges m : ℕ) : Type 0 wher
   pub few : getD in-edges m 0 ≤ edges
   pub from : (k : ℕ) → k < edges → getD consumer k 0 ≡ m → getD in-edges m 0 ≤ k
   pub row : (j k : ℕ) → getD in-edges m 0 ≤ j → j ≤ k → k < edges → getD consumer k 0 ≡ m → getD consumer j 0 ≡ m
+
+-- so do those into each of n steps
+abbrev pub In-rows : List ℕ → List ℕ → ℕ → ℕ → Type 0
+In-rows consumer in-edges edges n = (m : ℕ) → m < n → In-a-row consumer in-edges edges m

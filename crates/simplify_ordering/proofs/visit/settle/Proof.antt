@@ -31,7 +31,7 @@ settle-by-rule-requires c κs =
     let es = arena-of (now (a .recs)) (now (a .line)) (now (a .off)) (a .exprs) in
     let here : a .n < length ps = omega (arith, s .pre .0 .1, length-steps (now (a .steps)) (a .n-steps)) in
     let g = rw (s .pre .1 .0 .1) at (c .before .before .before .before .looks-of .ensures) in
-    ((g .steps-held, s .pre .0 .1, s .pre .1 .0 .0 ∙ options-now es ps ds (a .n) (a .tally) here _ (g .steps-are)), (s .pre .0 .0 .few, s .pre .0 .0 .marks))
+    ((g .steps-held, s .pre .0 .1, s .pre .1 .0 .0 ∙ options-now es ps ds (a .n) (a .tally) here _ (g .steps-are)), (s .pre .0 .0 .few, s .pre .0 .0 .marks, s .pre .1 .0 .2))
 
 -- src/visit.rt:108:9
 returns : tie.Need-returns

@@ -47,7 +47,7 @@ returns-2 c =
       (
         (λ _. record {
           steps = c .before .before .store-options .ensures .0 ∙ ap (λ (x : Ruled). set ps (a .n) (with-options (x .options) (step-at ps (a .n)))) reads;
-          edges = c .loosen-edges .ensures .0 ∙ ap (λ (x : Ruled). map (loosened (a .n) (x .loosened)) ds) reads;
+          edges = c .loosen-edges .ensures .0 (now (a .consumer)) (r .before .before .pre .1 .2) ∙ ap (λ (x : Ruled). map (loosened (a .n) (x .loosened)) ds) reads;
         }),
         ((λ k. absurd (k refl)), (c .before .before .store-options .ensures .1, c .loosen-edges .ensures .1)),
       ),

@@ -15,45 +15,55 @@ options-of-requires : tie.Need-options-of-requires
 options-of-requires c κs =
     let s = c .before in
     let a = s .args in
-    (s .pre .0 .steps-held, here-is (now (a .recs)) (now (a .line)) (now (a .off)) (a .exprs) (now (a .steps)) (a .n-steps) (now (a .consumer)) (now (a .slot)) (now (a .producer)) (now (a .unordered)) (a .edges) (a .tally) (s .pre .0) (a .n) (s .pre .1))
+    (s .pre .0 .steps-held, here-is (now (a .recs)) (now (a .line)) (now (a .off)) (a .exprs) (now (a .steps)) (a .n-steps) (now (a .consumer)) (now (a .slot)) (now (a .producer)) (now (a .unordered)) (a .edges) (a .tally) (s .pre .0) (a .n) (s .pre .1 .0))
+
+in-edges-of-requires : tie.Need-in-edges-of-requires
+in-edges-of-requires c κs =
+    let s = c .before .before in
+    let a = s .args in
+    let here = here-is (now (a .recs)) (now (a .line)) (now (a .off)) (a .exprs) (now (a .steps)) (a .n-steps) (now (a .consumer)) (now (a .slot)) (now (a .producer)) (now (a .unordered)) (a .edges) (a .tally) (s .pre .0) (a .n) (s .pre .1 .0) in
+    (s .pre .0 .few, omega (arith, s .pre .0 .steps-held .few, here), s .pre .1 .1 (a .n) here)
 
 around-step-requires : tie.Need-around-step-requires
 around-step-requires c κs =
-    let s = c .before .before .before .before in
+    let s = c .before .before .before .before .before in
     let a = s .args in
-    (s .pre .0 .few, omega (arith, s .pre .0 .steps-held .few, here-is (now (a .recs)) (now (a .line)) (now (a .off)) (a .exprs) (now (a .steps)) (a .n-steps) (now (a .consumer)) (now (a .slot)) (now (a .producer)) (now (a .unordered)) (a .edges) (a .tally) (s .pre .0) (a .n) (s .pre .1)))
+    let i = c .before .before .in-edges-of in
+    (s .pre .0 .few, omega (arith, s .pre .0 .steps-held .few, here-is (now (a .recs)) (now (a .line)) (now (a .off)) (a .exprs) (now (a .steps)) (a .n-steps) (now (a .consumer)) (now (a .slot)) (now (a .producer)) (now (a .unordered)) (a .edges) (a .tally) (s .pre .0) (a .n) (s .pre .1 .0)), i .ensures .order, i .ensures .fits)
 
 goes-requires : tie.Need-goes-requires
 goes-requires c κs = search needs
 
 unlink-node-requires : tie.Need-unlink-node-requires
 unlink-node-requires c κs =
-    let s = c .before .before .before .before .before .before .before .before .before .before in
+    let s = c .before .before .before .before .before .before .before .before .before .before .before in
     let a = s .args in
     let ps = stored-steps (now (a .steps)) (a .n-steps) in
     let ds = held-edges (now (a .consumer)) (now (a .slot)) (now (a .producer)) (now (a .unordered)) (a .edges) in
     let es = arena-of (now (a .recs)) (now (a .line)) (now (a .off)) (a .exprs) in
     let g = c .before .before .before .before .goes in
-    let o = c .before .before .before .before .before .before .before .before .options-of in
+    let o = c .before .before .before .before .before .before .before .before .before .options-of in
+    let i = c .before .before .before .before .before .before .before .before .in-edges-of in
     let e = c .before .before .before .before .before .around-step in
-    let tests = tests-read ps ds (a .n) (o .result) (e .result) (o .ensures) (e .ensures) (g .result) (g .ensures) in
-    (s .pre .0 .steps-held, (edges-held (now (a .recs)) (now (a .line)) (now (a .off)) (a .exprs) (now (a .steps)) (a .n-steps) (now (a .consumer)) (now (a .slot)) (now (a .producer)) (now (a .unordered)) (a .edges) (a .tally) (s .pre .0) (a .n) (s .pre .1), unlinkable (now (a .recs)) (now (a .line)) (now (a .off)) (a .exprs) (now (a .steps)) (a .n-steps) (now (a .consumer)) (now (a .slot)) (now (a .producer)) (now (a .unordered)) (a .edges) (a .tally) (s .pre .0) (a .n) (s .pre .1) (subst T (sym (c .before .before .before .if1 .taken) ∙ goes-is es ps ds (a .n) (a .tally) (g .result) tests [] []) tt)))
+    let tests = tests-read ps ds (a .n) (o .result) (e .result) (o .ensures) (e .ensures (now (a .consumer)) (now (a .slot)) (i .ensures)) (g .result) (g .ensures) in
+    (s .pre .0 .steps-held, ((edges-held (now (a .recs)) (now (a .line)) (now (a .off)) (a .exprs) (now (a .steps)) (a .n-steps) (now (a .consumer)) (now (a .slot)) (now (a .producer)) (now (a .unordered)) (a .edges) (a .tally) (s .pre .0) (a .n) (s .pre .1 .0), i .ensures), unlinkable (now (a .recs)) (now (a .line)) (now (a .off)) (a .exprs) (now (a .steps)) (a .n-steps) (now (a .consumer)) (now (a .slot)) (now (a .producer)) (now (a .unordered)) (a .edges) (a .tally) (s .pre .0) (a .n) (s .pre .1 .0) (subst T (sym (c .before .before .before .if1 .taken) ∙ goes-is es ps ds (a .n) (a .tally) (g .result) tests [] []) tt)))
 
 visited-requires : tie.Need-visited-requires
 visited-requires c κs =
-    c .before .before .before .before .before .before .before .before .before .before .before .pre .1 .visits
+    c .before .before .before .before .before .before .before .before .before .before .before .before .pre .1 .0 .visits
 
 returns : tie.Need-returns
 returns c =
-    let s = c .before .before .before .before .before .before .before .before .before .before .before .before in
+    let s = c .before .before .before .before .before .before .before .before .before .before .before .before .before in
     let a = s .args in
     let ps = stored-steps (now (a .steps)) (a .n-steps) in
     let ds = held-edges (now (a .consumer)) (now (a .slot)) (now (a .producer)) (now (a .unordered)) (a .edges) in
     let es = arena-of (now (a .recs)) (now (a .line)) (now (a .off)) (a .exprs) in
     let g = c .before .before .before .before .before .before .goes in
-    let o = c .before .before .before .before .before .before .before .before .before .before .options-of in
+    let o = c .before .before .before .before .before .before .before .before .before .before .before .options-of in
+    let i = c .before .before .before .before .before .before .before .before .before .before .in-edges-of in
     let e = c .before .before .before .before .before .before .before .around-step in
-    let tests = tests-read ps ds (a .n) (o .result) (e .result) (o .ensures) (e .ensures) (g .result) (g .ensures) in (
+    let tests = tests-read ps ds (a .n) (o .result) (e .result) (o .ensures) (e .ensures (now (a .consumer)) (now (a .slot)) (i .ensures)) (g .result) (g .ensures) in (
       record {
         outcome = λ back removed. goes-away es ps ds (a .n) (a .tally) (g .result) tests back removed (c .before .before .before .before .before .if1 .taken) _ _ _ (c .visited .ensures) (c .before .unlink-node .ensures .0);
         stop = λ back removed. tt;
@@ -63,28 +73,30 @@ returns c =
 
 settle-requires : tie.Need-settle-requires
 settle-requires c κs =
-    let s = c .before .before .before .before .before .before .before .before .before .before .before .before .before in
-    let a = s .args in
-    let ps = stored-steps (now (a .steps)) (a .n-steps) in
-    let ds = held-edges (now (a .consumer)) (now (a .slot)) (now (a .producer)) (now (a .unordered)) (a .edges) in
-    let es = arena-of (now (a .recs)) (now (a .line)) (now (a .off)) (a .exprs) in
-    let g = c .before .before .before .before .before .before .before .goes in
-    let o = c .before .before .before .before .before .before .before .before .before .before .before .options-of in
-    let e = c .before .before .before .before .before .before .before .before .around-step in
-    let tests = tests-read ps ds (a .n) (o .result) (e .result) (o .ensures) (e .ensures) (g .result) (g .ensures) in
-    ((s .pre .0, here-is (now (a .recs)) (now (a .line)) (now (a .off)) (a .exprs) (now (a .steps)) (a .n-steps) (now (a .consumer)) (now (a .slot)) (now (a .producer)) (now (a .unordered)) (a .edges) (a .tally) (s .pre .0) (a .n) (s .pre .1)), ((o .ensures, e .ensures), settle-asked (a .n) (run-of (now (a .recs)) (now (a .line)) (now (a .off)) (a .exprs) (now (a .steps)) (a .n-steps) (now (a .consumer)) (now (a .slot)) (now (a .producer)) (now (a .unordered)) (a .edges) [] [] (a .tally)) (s .pre .1)))
-
-returns-2 : tie.Need-returns-2
-returns-2 c =
     let s = c .before .before .before .before .before .before .before .before .before .before .before .before .before .before in
     let a = s .args in
     let ps = stored-steps (now (a .steps)) (a .n-steps) in
     let ds = held-edges (now (a .consumer)) (now (a .slot)) (now (a .producer)) (now (a .unordered)) (a .edges) in
     let es = arena-of (now (a .recs)) (now (a .line)) (now (a .off)) (a .exprs) in
-    let g = c .before .before .before .before .before .before .before .before .goes in
+    let g = c .before .before .before .before .before .before .before .goes in
     let o = c .before .before .before .before .before .before .before .before .before .before .before .before .options-of in
+    let i = c .before .before .before .before .before .before .before .before .before .before .before .in-edges-of in
+    let e = c .before .before .before .before .before .before .before .before .around-step in
+    let tests = tests-read ps ds (a .n) (o .result) (e .result) (o .ensures) (e .ensures (now (a .consumer)) (now (a .slot)) (i .ensures)) (g .result) (g .ensures) in
+    ((s .pre .0, here-is (now (a .recs)) (now (a .line)) (now (a .off)) (a .exprs) (now (a .steps)) (a .n-steps) (now (a .consumer)) (now (a .slot)) (now (a .producer)) (now (a .unordered)) (a .edges) (a .tally) (s .pre .0) (a .n) (s .pre .1 .0)), ((o .ensures, e .ensures (now (a .consumer)) (now (a .slot)) (i .ensures), i .ensures), settle-asked (a .n) (run-of (now (a .recs)) (now (a .line)) (now (a .off)) (a .exprs) (now (a .steps)) (a .n-steps) (now (a .consumer)) (now (a .slot)) (now (a .producer)) (now (a .unordered)) (a .edges) [] [] (a .tally)) (s .pre .1 .0)))
+
+returns-2 : tie.Need-returns-2
+returns-2 c =
+    let s = c .before .before .before .before .before .before .before .before .before .before .before .before .before .before .before in
+    let a = s .args in
+    let ps = stored-steps (now (a .steps)) (a .n-steps) in
+    let ds = held-edges (now (a .consumer)) (now (a .slot)) (now (a .producer)) (now (a .unordered)) (a .edges) in
+    let es = arena-of (now (a .recs)) (now (a .line)) (now (a .off)) (a .exprs) in
+    let g = c .before .before .before .before .before .before .before .before .goes in
+    let o = c .before .before .before .before .before .before .before .before .before .before .before .before .before .options-of in
+    let i = c .before .before .before .before .before .before .before .before .before .before .before .before .in-edges-of in
     let e = c .before .before .before .before .before .before .before .before .before .around-step in
-    let tests = tests-read ps ds (a .n) (o .result) (e .result) (o .ensures) (e .ensures) (g .result) (g .ensures) in (
+    let tests = tests-read ps ds (a .n) (o .result) (e .result) (o .ensures) (e .ensures (now (a .consumer)) (now (a .slot)) (i .ensures)) (g .result) (g .ensures) in (
       record {
         outcome = λ back removed. goes-on es ps ds (a .n) (a .tally) (g .result) tests back removed (c .before .before .before .before .before .before .before .if1 .left) ∙ c .settle .ensures .0 .outcome back removed;
         stop = c .settle .ensures .0 .stop;
@@ -95,4 +107,4 @@ returns-2 c =
 pub simplify-ir-node-orders-spec : {M : Type 1} → statement M
 simplify-ir-node-orders-spec =
     tie.close
-    (tie.spec options-of-requires around-step-requires goes-requires unlink-node-requires visited-requires returns settle-requires returns-2)
+    (tie.spec options-of-requires in-edges-of-requires around-step-requires goes-requires unlink-node-requires visited-requires returns settle-requires returns-2)

@@ -22,7 +22,7 @@ walk-back-requires c κs =
     let s = c .before .before .before .before .before .before .before .before .before .before .before .before .before .before .before .before .before in
     let left = c .before .before .before .before .before .before .before .if1 .left in
     let e = c .before .before .before .before .before .before .before .before .before .walk-down .ensures in
-    (e .1 .0, (up-asks _ _ _ _ (e .0) (s .pre .formed) (λ b d. refl) left, e .1 .1))
+    (e .1 .0, (up-asks _ _ _ _ (e .0) (s .pre .formed) (λ b d. refl) left, (e .1 .1 .0, e .1 .1 .1, e .1 .1 .2, s .pre .rows)))
 
 orderings-of-requires : tie.Need-orderings-of-requires
 orderings-of-requires c κs = search needs

@@ -3,7 +3,9 @@ use Rattle.simplify_ordering.proofs.walks.visit_place.Statement.{statem
 use Rattle.simplify_ordering.proofs.walks.visit_place.Tie as tie
 
 simplify-ir-node-orders-requires : tie.Need-simplify-ir-node-orders-requires
-simplify-ir-node-orders-requires c κs = search needs
+simplify-ir-node-orders-requires c κs =
+    let p = c .before .before .before .before .before .before .pre in
+    (p .0, (p .1 .0, p .1 .1 .4))
 
 place-requires : tie.Need-place-requires
 place-requires c κs = search needs

@@ -11,13 +11,13 @@ use Rattle.simplify_ordering.proofs.walks.walk.Statement.{statement}
 use Rattle.simplify_ordering.proofs.walks.walk.Tie as tie
 
 abbrev Inv-loop : tie.InvT-loop
-Inv-loop recs₀ line₀ off₀ steps₀ n-steps consumer slot producer₀ unordered₀ edges list from to back₀ r₀ i₀ recs line off steps producer unordered back r i =
+Inv-loop recs₀ line₀ off₀ steps₀ n-steps consumer slot in-edges producer₀ unordered₀ edges list from to back₀ r₀ i₀ recs line off steps producer unordered back r i =
     (from ≤ i) × (i ≤ to) × Run-held recs line off (r .exprs) steps n-steps producer unordered edges
     × Walking (take (to - from) (drop from list)) (take (to - i) (drop i list)) (λ b d. run-of recs₀ line₀ off₀ (r₀ .exprs) steps₀ n-steps consumer slot producer₀ unordered₀ edges b d (r₀ .tally)) (λ b d. run-of recs line off (r .exprs) steps n-steps consumer slot producer unordered edges b d (r .tally)) r₀ r (drop (r .at) back)
     × (length back ≡ 288) × (r .at ≤ 288) × (288 + from ≤ r .at + i) × (r .removed ≤ r₀ .removed + (i - from))
 
 abbrev μ-loop : tie.MeasureT-loop
-μ-loop recs₀ line₀ off₀ steps₀ n-steps consumer slot producer₀ unordered₀ edges list from to back₀ r₀ i₀ recs line off steps producer unordered back r i = to - i
+μ-loop recs₀ line₀ off₀ steps₀ n-steps consumer slot in-edges producer₀ unordered₀ edges list from to back₀ r₀ i₀ recs line off steps producer unordered back r i = to - i
 
 loop-holds : tie.Need-loop-holds Inv-loop μ-loop
 loop-holds c =
@@ -48,7 +48,7 @@ visit-place-requires c κs =
     let next = rest-next (now (a .list)) (l .i) (a .to) (c .before .before .before .before .before .before .before .before .before .before .loop-test .taken) (omega (arith, c .before .before .before .before .before .before .before .before .before .before .before .before .pre .1 .1 .1, c .before .before .before .before .before .before .before .before .before .before .before .before .pre .1 .1 .2)) in
     let g′ = subst (λ (x : List ℕ). Walking ns x before after (a .w) (l .r) (drop (l .r .at) (l .back))) next g in
     let v = place-visitable ns before (a .w) after (l .r) (drop (l .r .at) (l .back)) n _ g′ (c .before .before .before .before .before .before .before .before .if1 .left) in
-    (l .inv .2, (visitable-apart n (after (drop (l .r .at) (l .back) ++ g′ .back) (g′ .gone ++ g′ .removed)) (after [] []) refl refl refl refl v, (omega (arith, l .inv .6, c .before .before .before .before .before .before .before .before .before .before .loop-test .taken, c .before .before .before .before .before .before .before .before .before .before .before .before .pre .1 .1 .1), l .inv .5, l .inv .4, omega (arith, l .inv .7, l .inv .1, c .before .before .before .before .before .before .before .before .before .before .before .before .pre .1 .1 .1, c .before .before .before .before .before .before .before .before .before .before .before .before .pre .1 .1 .6))))
+    (l .inv .2, (visitable-apart n (after (drop (l .r .at) (l .back) ++ g′ .back) (g′ .gone ++ g′ .removed)) (after [] []) refl refl refl refl v, (omega (arith, l .inv .6, c .before .before .before .before .before .before .before .before .before .before .loop-test .taken, c .before .before .before .before .before .before .before .before .before .before .before .before .pre .1 .1 .1), l .inv .5, l .inv .4, omega (arith, l .inv .7, l .inv .1, c .before .before .before .before .before .before .before .before .before .before .before .before .pre .1 .1 .1, c .before .before .before .before .before .before .before .before .before .before .before .before .pre .1 .1 .6), c .before .before .before .before .before .before .before .before .before .before .before .before .pre .1 .1 .7)))
 
 add-i : tie.Need-add-i Inv-loop μ-loop
 add-i c = omega (arith, c .before .before .before .before .before .before .before .before .before .before .before .loop-test .taken, c .before .before .before .before .before .before .before .before .before .before .before .before .before .pre .1 .1 .1)

@@ -21,7 +21,7 @@ walk-requires c κs =
     let ask = s .pre .0 in
     let sh = sheet-of (now (a .recs)) (now (a .line)) (now (a .off)) (a .exprs) (now (a .steps)) (a .n-steps) in
     let before : List ℕ → List ℕ → Run = λ b d. run-of (now (a .recs)) (now (a .line)) (now (a .off)) (a .exprs) (now (a .steps)) (a .n-steps) (now (a .consumer)) (now (a .slot)) (now (a .producer)) (now (a .unordered)) (a .edges) b d (record { visits = 0; looks = 0 }) in
-    (ask .held, (down-asks sh (ask .formed) before (begins ask) _ (all-places ask), (omega arith, ask .few, c .before .before .before .before .before .before .before .size-288 .ensures, s .pre .1, refl, refl, omega arith)))
+    (ask .held, (down-asks sh (ask .formed) before (begins ask) _ (all-places ask), (omega arith, ask .few, c .before .before .before .before .before .before .before .size-288 .ensures, s .pre .1, refl, refl, omega arith, ask .rows)))
 
 returns : tie.Need-returns
 returns c =
