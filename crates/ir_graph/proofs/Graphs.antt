@@ -19,7 +19,7 @@ use Rattle.ir_graph.proofs.Bounds.{namings}
 use Rattle.ir_graph.proofs.Linking.{length-edges, between, same-into}
 use Rattle.ir_graph.proofs.There.{place-there, consumer-there, slot-there, producer-there}
 use Rattle.ir_graph.proofs.SecondPass.{Growing, Turn, past-of, begins, turn, turns-left, gone, just-pushed, growing-next, grown}
-use Rattle.ir_graph.proofs.Rows.{Rows, no-rows, rows-next, all-rows}
+use Rattle.ir_graph.proofs.Rows.{Rows, no-rows, rows-next, all-rows, in-a-row}
 
 -- what the loop keeps, of the arrays and the counters
 pub record Placing (ps : List Step) (places counts c s p firsts : List ℕ) (len edges i : ℕ) : Type 0 where
@@ -74,7 +74,7 @@ module _ (bytes : List ℕ) (n : ℕ) (small : n ≤ 32) (plan : Plan (stored-st
         consumer-there = consumer-there ps c s p edges b plan;
         slot-there = slot-there ps c s p edges b plan;
         producer-there = producer-there ps c s p edges b plan;
-        in-rows = all-rows bytes n small plan formed places counts firsts (edges-of c s p edges) len i (g .growing) h (g .rows);
+        in-rows = λ m l. in-a-row ps c s p firsts edges m (all-rows bytes n small plan formed places counts firsts (edges-of c s p edges) len i (g .growing) h (g .rows) m l);
       }
     where
       few : len ≤ length (sinks ps) + length (named ps)

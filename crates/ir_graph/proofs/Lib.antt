@@ -5,6 +5,7 @@ pub mod Linking
 pub mod Bounds
 pub mod FirstPass
 pub mod SecondPass
+pub mod Selected
 pub mod Rows
 pub mod There
 pub mod Graphs

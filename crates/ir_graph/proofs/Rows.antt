@@ -13,8 +13,9 @@ use Rattle.plan.specs.Lists.{if_then_else_, select, sum, numbered, times}
 use Rattle.plan.specs.Sheet.{Step, step-at}
 use Rattle.plan.specs.Faults.{named}
 use Rattle.plan.specs.Graph.{Edge, graph, sinks, is-cache}
-use Rattle.plan.specs.Visit.{is-into}
+use Rattle.plan.specs.Visit.{is-into, no-edge}
 use Rattle.storage.specs.Stored.{stored-steps, Step-formed}
+use Rattle.storage.specs.Edges.{In-a-row}
 use Rattle.plan.proofs.Booleans.{differ, equal}
 use Rattle.plan.proofs.Counts.{false-of, true-of, sum-reverse, times-same, times-other, same-number, only}
 use Rattle.claims.specs.Plan.{Plan}
@@ -25,21 +26,13 @@ use Rattle.claims.proofs.Reached.{followed-le}
 use Rattle.claims.proofs.Hits.{hits-named}
 use Rattle.claims.proofs.Visits.{length-numbered}
 use Rattle.claims.proofs.Places.{opened}
-use Rattle.ir_graph.specs.Edges.{made}
-use Rattle.ir_graph.specs.Built.{In-row}
+use Rattle.ir_graph.specs.Edges.{made, edges-of}
+use Rattle.ir_graph.proofs.Linking.{length-edges}
+use Rattle.ir_graph.proofs.There.{edge-there}
+use Rattle.ir_graph.proofs.Selected.{select-append, passes-in, passes-only}
 use Rattle.ir_graph.proofs.SecondPass.{Growing, past-of, rest, new, counted-top, following-new, top-there, grown}
 
 -- Edges into a step --------------------------------------------------------------------------------------------------------------
-
-select-append : {A : Type 0} (f : A → Bool) (l m : List A) → select f (l ++ m) ≡ select f l ++ select f m
-unfolding select
-select-append f [] m = refl
-select-append f (x ∷ l) m = by (f x) (select-append f l m)
-  where
-    by : (b : Bool) → select f (l ++ m) ≡ select f l ++ select f m
-        → (if b then x ∷ select f (l ++ m) else select f (l ++ m)) ≡ (if b then x ∷ select f l else select f l) ++ select f m
-    by true e = ap (λ r. x ∷ r) e
-    by false e = e
 
 made-from : ℕ → ℕ → List ℕ → List Edge
 made-from n k ms = map (λ (j, m). made n j m) (numbered k ms)
@@ -71,6 +64,11 @@ unfolding edges-into
 length-made n ms = simp (length-map, length-numbered)
 
 -- Rows ---------------------------------------------------------------------------------------------------------------------------
+
+-- the edges into the step m, by slot, are those from the number f on
+pub record In-row (ps : List Step) (es : List Edge) (m f : ℕ) : Type 0 where
+  pub row : select (is-into m) es ≡ take (length (step-at ps m .inputs)) (drop f es)
+  pub fits : f + length (step-at ps m .inputs) ≤ length es
 
 -- how many places a step has in all
 abbrev total : List Step → ℕ → ℕ
@@ -207,11 +205,40 @@ module _ (bytes : List ℕ) (n : ℕ) (small : n ≤ 32) (plan : Plan (stored-st
   -- in the end every step has all its places behind it
   pub all-rows : (places counts firsts : List ℕ) (es : List Edge) (len i : ℕ) → Growing (stored-steps bytes n) places counts es len i → len ≤ i
       → Rows (stored-steps bytes n) (past-of places i) es firsts
-      → (m : ℕ) → m < length (stored-steps bytes n) → In-row (stored-steps bytes n) (graph (stored-steps bytes n) .1) m (getD firsts m 0)
+      → (m : ℕ) → m < length (stored-steps bytes n) → In-row (stored-steps bytes n) es m (getD firsts m 0)
   all-rows places counts firsts es len i g h r m l =
       let q = stored-steps bytes n in
       let (a, b) = grown bytes n small plan formed places counts es len i g h in
       let same : i ≡ len = omega (arith, g .order) in
       let all = ordered-own q plan .placed-all (only m) in
       let gone : times m (past-of places i) ≡ times m (graph q .0) = rw same (sum-reverse (only m) (take len places) ∙ ap (times m) a) in
-      rw (← b) (r .closed m l (omega arith))
+      r .closed m l (omega arith)
+
+-- Where they are stored ----------------------------------------------------------------------------------------------------------
+
+module _ (ps : List Step) (c s p firsts : List ℕ) (e m : ℕ) (r : In-row ps (edges-of c s p e) m (getD firsts m 0)) where
+  abbrev es : List Edge
+  es = edges-of c s p e
+
+  abbrev many : ℕ
+  many = length (step-at ps m .inputs)
+
+  into-at : (k : ℕ) → k < e → is-into m (getD es k no-edge) ≡ eqb (getD c k 0) m
+  into-at k h = ap (is-into m) (edge-there c s p e k h)
+
+  in-run : (k : ℕ) → k < e → getD c k 0 ≡ m → (getD firsts m 0 ≤ k) × (k < getD firsts m 0 + many)
+  in-run k h v =
+      passes-only (is-into m) es no-edge (getD firsts m 0) many (r .row) k (rw (length-edges c s p e) h) (rw (into-at k h) (equal (getD c k 0) m v))
+
+  pub in-a-row : In-a-row c firsts e m
+  in-a-row =
+      let size = length-edges c s p e in
+      record {
+        few = omega (arith, r .fits);
+        from = λ k h v. in-run k h v .0;
+        row =
+            λ j k a b h v.
+            let last = in-run k h v .1 in
+            eqb→eq (getD c j 0) m
+            (rw (into-at j (omega arith)) at (passes-in (is-into m) es no-edge (getD firsts m 0) many (r .row) j (r .fits) a (omega arith)));
+      }

@@ -21,7 +21,7 @@ use Rattle.claims.proofs.MergedPlan.{ordered-own}
 use Rattle.ir_graph.specs.Edges.{made, edges-of}
 use Rattle.ir_graph.proofs.Linking.{length-edges}
 
-edge-there : (c s p : List ℕ) (e k : ℕ) → k < e → getD (edges-of c s p e) k no-edge ≡ made (getD c k 0) (getD s k 0) (getD p k 0)
+pub edge-there : (c s p : List ℕ) (e k : ℕ) → k < e → getD (edges-of c s p e) k no-edge ≡ made (getD c k 0) (getD s k 0) (getD p k 0)
 unfolding edges-of
 edge-there c s p e k h = table-at (λ j. made (getD c j 0) (getD s j 0) (getD p j 0)) e k no-edge h
 
