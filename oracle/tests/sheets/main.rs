@@ -1,5 +1,6 @@
 //! The oracle's tests, and how they ask it: with sheets as text.
 mod cases;
+mod cpu_time;
 mod findings;
 mod generated;
 mod limits;
