@@ -7,6 +7,7 @@ mod limits;
 mod programs;
 mod reading;
 mod walks;
+mod worst;
 
 /// The finished sheet, or `R,n`.
 fn answer(sheet: &str) -> String {
