@@ -1,5 +1,6 @@
 //! The reference answer: a sheet is read and checked here, finished by the Rust, and printed here.
 pub mod batch;
+pub mod cpu_time;
 pub mod expr_lines;
 pub mod faults;
 pub mod generate;

@@ -1,7 +1,7 @@
 //! The program `time_looks`: the looks at the same lists by the Rust and by the port, in one process. time_looks.sh builds it.
 use std::hint::black_box;
-use std::time::{Duration, Instant};
 
+use oracle::cpu_time::{self, NO_ROUND, least};
 use oracle::generate::{FAMILIES, sheet};
 use oracle::run::{plan, write_exprs};
 use oracle::sheet::{ExprLine, Sheet};
@@ -89,24 +89,26 @@ fn measure(name: &str, lists: Vec<List>, times: u64) {
     }
 
     let mut cache = Lists::default();
-    let mut best = [Duration::MAX; 2];
+    let mut best = NO_ROUND;
     for _ in 0..ROUNDS {
-        let start = Instant::now();
-        for _ in 0..times {
-            kept.iter_mut().for_each(|list| list.by_rust(&mut cache));
-        }
-        let middle = Instant::now();
-        for _ in 0..times {
-            for list in &kept {
-                list.by_port();
+        let by_rust = cpu_time::of(|| {
+            for _ in 0..times {
+                kept.iter_mut().for_each(|list| list.by_rust(&mut cache));
             }
-        }
-        best = [best[0].min(middle - start), best[1].min(middle.elapsed())];
+        });
+        let by_port = cpu_time::of(|| {
+            for _ in 0..times {
+                for list in &kept {
+                    list.by_port();
+                }
+            }
+        });
+        best = least(best, [by_rust, by_port]);
     }
 
     let [rust, port] = best.map(|time| time.as_nanos() as f64 / (times * looks) as f64);
     println!(
-        "{name}: {} lists, {looks} looks; Rust {rust:.1} ns a look, port {port:.1} ns, ratio {:.2}",
+        "{name}: {} lists, {looks} looks; Rust {rust:.1} ns a look, port {port:.1} ns, ratio {:.2} (CPU time, least of {ROUNDS} rounds)",
         kept.len(),
         port / rust
     );

@@ -1,11 +1,13 @@
 //! The oracle's tests, and how they ask it: with sheets as text.
 mod cases;
+mod cpu_time;
 mod findings;
 mod generated;
 mod limits;
 mod programs;
 mod reading;
 mod walks;
+mod worst;
 
 /// The finished sheet, or `R,n`.
 fn answer(sheet: &str) -> String {
