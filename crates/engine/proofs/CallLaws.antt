@@ -85,7 +85,7 @@ module _ (es : List ℕ) (m : ℕ) (ps : List ℕ) (n : ℕ) (k : Plan-stored es
   steps-plan = plans.plan-of (sheet es m ps n) (k .formed)
 
   pub graph-made : (places consumer slot producer ins : List ℕ) (g : Graph) → Built (stored-steps ps n) places consumer slot producer ins g
-      → Graph-made (stored-steps ps n) places consumer slot producer g
+      → Graph-made (stored-steps ps n) places consumer slot producer ins g
   graph-made places consumer slot producer ins g b =
       record {
         places-are = b .places-are;
@@ -93,6 +93,7 @@ module _ (es : List ℕ) (m : ℕ) (ps : List ℕ) (n : ℕ) (k : Plan-stored es
         few-places = b .few-places;
         few-edges = b .few-edges;
         producers = λ i h. omega (arith, b .producer-there i h, length-steps ps n, k .steps-held .few);
+        rows = b .in-rows;
       }
 
 -- What follows of the answer -----------------------------------------------------------------------------------------------------

@@ -14,7 +14,7 @@ use Rattle.plan.specs.Finished.{called, finished-answer}
 use Rattle.plan.specs.Graph.{Edge}
 use Rattle.plan.specs.Sheet.{Sheet, done}
 use Rattle.storage.specs.Stored.{table, arena-of, stored-exprs, stored-steps}
-use Rattle.storage.proofs.Laws.{same-table}
+use Rattle.storage.proofs.Laws.{same-table, length-steps}
 use Rattle.plan.specs.Text.{expr-line, step-line, edge-line, tally-line, exprs-block, steps-block, edges-block, printed, blocks, joined, end-of}
 use Rattle.plan.specs.Text as text
 use Rattle.plan.specs.Visit.{Run}
@@ -55,7 +55,7 @@ module _ (es : List ℕ) (m : ℕ) (ps : List ℕ) (n : ℕ) (k : Plan-stored es
   pub sheet-at-start : sheet-of es line off m ps n ≡ sheet es m ps n
   sheet-at-start = rw (arena-at-start es m (k .exprs-held .few) line off own on)
 
-  module _ (records : length es ≡ 2048) (consumer slot producer places : List ℕ) (g : Graph) (producers : length producer ≡ 256) (made : Graph-made (stored-steps ps n) places consumer slot producer g) where
+  module _ (records : length es ≡ 2048) (consumer slot producer in-edges places : List ℕ) (g : Graph) (producers : length producer ≡ 256) (made : Graph-made (stored-steps ps n) places consumer slot producer in-edges g) where
     arena-held : Arena-held es line off m
     arena-held =
         record {
@@ -68,7 +68,7 @@ module _ (es : List ℕ) (m : ℕ) (ps : List ℕ) (n : ℕ) (k : Plan-stored es
           below = λ p h. omega (arith, own .own p (omega (arith, k .exprs-held .few)));
         }
 
-    pub fetch-asked : Fetch-asks es line off m ps n consumer slot producer (replicate 256 false) (g .edges) places (g .places)
+    pub fetch-asked : Fetch-asks es line off m ps n consumer slot in-edges producer (replicate 256 false) (g .edges) places (g .places)
     fetch-asked =
         record {
           held =
@@ -83,6 +83,7 @@ module _ (es : List ℕ) (m : ℕ) (ps : List ℕ) (n : ℕ) (k : Plan-stored es
           few = made .few-places;
           places-are = made .places-are;
           edges-are = edges-as-made consumer slot producer (g .edges) (made .producers) ∙ made .edges-are;
+          rows = λ i h. made .rows i (omega (arith, h, length-steps ps n));
         }
 
 -- What is written ----------------------------------------------------------------------------------------------------------------

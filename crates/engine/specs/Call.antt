@@ -2,11 +2,12 @@
 use mathlib.Core.Path.{_≡_}
 use Prim.Native.Nat.{ℕ, _≤_, _<_}
 use mathlib.Core.List.{List}
-use lib.ListN.{getD, take}
+use lib.ListN.{length, getD, take}
 use Rattle.plan.specs.declared.answer.Answer.{Answer}
 use Rattle.plan.specs.Finished.{Called}
 use Rattle.plan.specs.Graph.{graph}
 use Rattle.plan.specs.Sheet.{Step}
+use Rattle.storage.specs.Edges.{In-rows}
 use Rattle.storage.specs.Stored.{Steps-held}
 use Rattle.claims.specs.WellFormed.{WellFormed}
 use Rattle.reading.specs.Held.{sheet, Exprs-held}
@@ -24,9 +25,10 @@ pub record Plan-stored (es : List ℕ) (m : ℕ) (ps : List ℕ) (n : ℕ) : Typ
   pub formed : WellFormed (sheet es m ps n)
 
 -- the arrays hold the visiting list and the edges of the steps ps
-pub record Graph-made (ps : List Step) (places consumer slot producer : List ℕ) (g : Graph) : Type 0 where
+pub record Graph-made (ps : List Step) (places consumer slot producer in-edges : List ℕ) (g : Graph) : Type 0 where
   pub places-are : take (g .places) places ≡ graph ps .0
   pub edges-are : edges-of consumer slot producer (g .edges) ≡ graph ps .1
   pub few-places : g .places ≤ 288
   pub few-edges : g .edges ≤ 256
   pub producers : (k : ℕ) → k < g .edges → getD producer k 0 < 32
+  pub rows : In-rows consumer in-edges (g .edges) (length ps)

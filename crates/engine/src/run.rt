@@ -75,6 +75,7 @@ fn finish_graph(
     n_steps: usize,
     consumer: &[u8; 256],
     slot: &[u8; 256],
+    in_edges: &[u8; 32],
     producer: &mut [u8; 256],
     list: &[u8; 288],
     g: Graph,
@@ -82,7 +83,7 @@ fn finish_graph(
 ) -> Answer
     requires { ⌜ 16384 ≤ length (now out) ⌝ }
     requires { ⌜ Plan-stored (now recs) exprs (now steps) «n_steps» ⌝ }
-    requires { ⌜ Graph-made (stored-steps (now steps) «n_steps») (now list) (now consumer) (now slot) (now producer) g ⌝ }
+    requires { ⌜ Graph-made (stored-steps (now steps) «n_steps») (now list) (now consumer) (now slot) (now producer) (now in_edges) g ⌝ }
     ensures { λ r. ⌜ call r (now (out .exit)) ≡ called (now (out .entry)) (simplify-and-fetch-orderings (sheet (now (recs .entry)) exprs (now (steps .entry)) «n_steps»)) ⌝ }
 {
     size_2048(recs);
@@ -99,6 +100,7 @@ fn finish_graph(
         n_steps,
         consumer,
         slot,
+        in_edges,
         producer,
         &mut unordered,
         g.edges,
@@ -138,7 +140,7 @@ pub fn finish_plan(
     let mut consumer: [u8; 256] = [0; 256];
     let mut slot: [u8; 256] = [0; 256];
     let mut producer: [u8; 256] = [0; 256];
-    let mut ins: [u8; 32] = [0; 32];
+    let mut in_edges: [u8; 32] = [0; 32];
     let g = build_ir_traversal_graph(
         steps,
         n_steps,
@@ -146,7 +148,7 @@ pub fn finish_plan(
         &mut consumer,
         &mut slot,
         &mut producer,
-        &mut ins,
+        &mut in_edges,
     );
     finish_graph(
         recs,
@@ -155,6 +157,7 @@ pub fn finish_plan(
         n_steps,
         &consumer,
         &slot,
+        &in_edges,
         &mut producer,
         &list,
         g,

@@ -5,7 +5,7 @@ use mathlib.Core.List.{List}
 use lib.ListN.{length, getD, take}
 use Rattle.plan.specs.Sheet.{Step, step-at}
 use Rattle.plan.specs.Graph.{graph}
-use Rattle.storage.specs.Edges.{In-a-row}
+use Rattle.storage.specs.Edges.{In-rows}
 use Rattle.ir_graph.specs.Edges.{edges-of}
 use Rattle.ir_graph.specs.declared.ir_graph.Graph.{Graph}
 
@@ -20,4 +20,4 @@ pub record Built (ps : List Step) (places consumer slot producer in-edges : List
   pub slot-there : (k : ℕ) → k < g .edges → getD slot k 0 < length (step-at ps (getD consumer k 0) .inputs)
   pub producer-there : (k : ℕ) → k < g .edges → getD producer k 0 < length ps
   -- each step's in-edges stand in a row
-  pub in-rows : (m : ℕ) → m < length ps → In-a-row consumer in-edges (g .edges) m
+  pub in-rows : In-rows consumer in-edges (g .edges) (length ps)

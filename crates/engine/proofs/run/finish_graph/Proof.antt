@@ -21,7 +21,7 @@ simplify-and-fetch-orderings-requires : tie.Need-simplify-and-fetch-orderings-re
 simplify-and-fetch-orderings-requires c κs =
     let s = c .before .before .before .before .before .before .before .before .before .before .before .before .before in
     let a = s .args in
-    fetch-asked _ _ _ _ (s .pre .1 .0) _ _ (c .before .before .before .before .before .before .before .own-lines .ensures) (c .before .before .before .before .before .before .none-off .ensures) (c .before .before .before .before .before .before .before .before .before .before .size-2048 .ensures) (now (a .consumer)) (now (a .slot)) (now (a .producer)) (now (a .list)) (a .g) (c .before .before .before .before .before .before .before .before .size-256 .ensures) (s .pre .1 .1)
+    fetch-asked _ _ _ _ (s .pre .1 .0) _ _ (c .before .before .before .before .before .before .before .own-lines .ensures) (c .before .before .before .before .before .before .none-off .ensures) (c .before .before .before .before .before .before .before .before .before .before .size-2048 .ensures) (now (a .consumer)) (now (a .slot)) (now (a .producer)) (now (a .in-edges)) (now (a .list)) (a .g) (c .before .before .before .before .before .before .before .before .size-256 .ensures) (s .pre .1 .1)
 
 enum-known-k : tie.Need-enum-known-k
 enum-known-k c = search needs

@@ -11,8 +11,8 @@ build-ir-traversal-graph-requires c κs =
 
 finish-graph-requires : tie.Need-finish-graph-requires
 finish-graph-requires c κs =
-    let p = c .before .before .before .before .before .before .before .before .before .before .before .before .before .before .before .pre in
-    (p .0, (p .1, graph-made _ _ _ _ (p .1) _ _ _ _ _ _ (c .before .before .before .before .before .before .before .build-ir-traversal-graph .ensures)))
+    let p = c .before .before .before .before .before .before .before .before .before .before .before .before .before .before .before .before .pre in
+    (p .0, (p .1, graph-made _ _ _ _ (p .1) _ _ _ _ _ _ (c .before .before .before .before .before .before .before .before .build-ir-traversal-graph .ensures)))
 
 same-length : tie.Need-same-length
 same-length c = search needs
