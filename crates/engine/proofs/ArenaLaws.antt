@@ -1,6 +1,7 @@
 -- Laws of the arena written out: a record copied, its option cleared, one line after the other.
 use mathlib.Core.Path.{_≡_, refl, sym, ap, _∙_, subst}
 use Prim.Native.Nat.{ℕ, suc, _+_, _*_, _≤_, _<_}
+use mathlib.Core.Logic.{_≢_}
 use native.Mathlib.Omega.{arith}
 use native.Mathlib.Decide.{ℕ-discrete}
 use mathlib.Core.Bool.{Bool, true, false}
@@ -12,31 +13,40 @@ use Rattle.plan.specs.Look.{switched-off}
 use Rattle.storage.specs.Stored.{stored-expr, stored-exprs, held-expr, arena-of, Expr-formed}
 use Rattle.storage.proofs.Laws.{same-table}
 use Rattle.simplify_ordering.specs.Arena.{Arena-held}
-use Rattle.simplify_ordering.proofs.ImplodeLaws.{base-below}
-use Rattle.engine.specs.Lines.{Copied, Line-stored, Lines-stored}
+use Rattle.engine.specs.Lines.{Copied, Line-held, Line-stored}
 
 -- Bytes copied -------------------------------------------------------------------------------------------------------------------
 
-module _ (from : List ℕ) (a : ℕ) (entry : List ℕ) (b : ℕ) where
-  pub none-copied : Copied from a entry b 0 entry
-  none-copied = record { size = refl; own = λ k h. absurd (omega arith); before = λ j h. refl }
+module _ (entry : List ℕ) (a b : ℕ) where
+  pub none-copied : Copied entry a b 0 entry
+  none-copied = record { size = refl; own = λ k h. absurd (omega arith); before = λ j h. refl; behind = λ j h. refl }
 
-  pub one-copied : (k : ℕ) (bytes : List ℕ) → b + k < length entry → Copied from a entry b k bytes
-      → Copied from a entry b (k + 1) (set bytes (b + k) (getD from (a + k) 0))
-  one-copied k bytes room c =
+  pub one-copied : (k : ℕ) (bytes : List ℕ) → a + k < b → b + k < length entry → Copied entry a b k bytes
+      → Copied entry a b (k + 1) (set bytes (b + k) (getD bytes (a + k) 0))
+  one-copied k bytes read room c =
       record {
-        size = length-set bytes (b + k) (getD from (a + k) 0) ∙ c .size;
+        size = length-set bytes (b + k) v ∙ c .size;
         own = λ j h. by j h (ℕ-discrete j k);
-        before = λ j h. getD-set-other bytes (b + k) j (getD from (a + k) 0) 0 (λ e. omega (arith, e)) ∙ c .before j h;
+        before = λ j h. other j (λ e. omega (arith, e)) ∙ c .before j h;
+        behind = λ j h. other j (λ e. omega (arith, e)) ∙ c .behind j (omega arith);
       }
     where
-      by : (j : ℕ) → j < k + 1 → Dec (j ≡ k) → getD (set bytes (b + k) (getD from (a + k) 0)) (b + j) 0 ≡ getD from (a + j) 0
-      by j h (yes e) = rw e (getD-set-same bytes (b + k) (getD from (a + k) 0) 0 (omega (arith, c .size)))
-      by j h (no n) =
-          getD-set-other bytes (b + k) (b + j) (getD from (a + k) 0) 0 (λ e. n (omega (arith, e))) ∙ c .own j (omega (arith, n))
+      v : ℕ
+      v = getD bytes (a + k) 0
 
-  pub all-copied : (k : ℕ) (bytes : List ℕ) → 16 ≤ k → Copied from a entry b k bytes → Copied from a entry b 16 bytes
-  all-copied k bytes h c = record { size = c .size; own = λ j l. c .own j (omega arith); before = c .before }
+      other : (j : ℕ) → j ≢ b + k → getD (set bytes (b + k) v) j 0 ≡ getD bytes j 0
+      other j = getD-set-other bytes (b + k) j v 0
+
+      by : (j : ℕ) → j < k + 1 → Dec (j ≡ k) → getD (set bytes (b + k) v) (b + j) 0 ≡ getD entry (a + j) 0
+      by j h (yes e) = rw e (getD-set-same bytes (b + k) v 0 (omega (arith, c .size)) ∙ c .before (a + k) read)
+      by j h (no n) = other (b + j) (λ e. n (omega (arith, e))) ∙ c .own j (omega (arith, n))
+
+  pub all-copied : (k : ℕ) (bytes : List ℕ) → k ≡ 16 → Copied entry a b k bytes → Copied entry a b 16 bytes
+  all-copied k bytes e c = subst (λ (m : ℕ). Copied entry a b m bytes) e c
+
+-- a record that is where it belongs
+pub own-copied : (entry : List ℕ) (l p : ℕ) → l ≡ p → Copied entry (l * 16) (p * 16) 16 entry
+own-copied entry l p e = record { size = refl; own = λ k h. rw e; before = λ j h. refl; behind = λ j h. refl }
 
 -- A record of the same bytes -----------------------------------------------------------------------------------------------------
 
@@ -53,7 +63,7 @@ module _ (x y : List ℕ) (i j : ℕ) (room : i * 16 + 16 ≤ length x) (there :
           getD-take 16 (drop (i * 16) x) k 0 few ∙ getD-drop (i * 16) x k 0 ∙ same k few
           ∙ sym (getD-take 16 (drop (j * 16) y) k 0 few ∙ getD-drop (j * 16) y k 0)
 
-  pub same-expr : stored-expr x i ≡ stored-expr y j
+  same-expr : stored-expr x i ≡ stored-expr y j
   unfolding stored-expr
   same-expr =
       let c = getD y (j * 16 + 12) 0 in
@@ -62,7 +72,7 @@ module _ (x y : List ℕ) (i j : ℕ) (room : i * 16 + 16 ≤ length x) (there :
       (sym (take-take (4 + c) 16 (drop (i * 16) x) (omega (arith, formed .count))) ∙ ap (take (4 + c)) sixteen
       ∙ take-take (4 + c) 16 (drop (j * 16) y) (omega (arith, formed .count)))
 
-  pub same-formed : Expr-formed x i
+  same-formed : Expr-formed x i
   same-formed =
       let z : (m : ℕ) → m * 16 + 0 ≡ m * 16 = λ m. omega arith in
       record {
@@ -71,6 +81,9 @@ module _ (x y : List ℕ) (i j : ℕ) (room : i * 16 + 16 ≤ length x) (there :
         length-preserving = rw (same 2 (omega arith)) (formed .length-preserving);
         count = rw (same 12 (omega arith)) (formed .count);
       }
+
+  pub same-record : (stored-expr x i ≡ stored-expr y j) × Expr-formed x i
+  same-record = (same-expr, same-formed)
 
 -- Its option cleared -------------------------------------------------------------------------------------------------------------
 
@@ -103,71 +116,96 @@ module _ (bytes : List ℕ) (p : ℕ) (room : p * 16 + 16 ≤ length bytes) wher
 
 -- A line -------------------------------------------------------------------------------------------------------------------------
 
-module _ (recs line : List ℕ) (off : List Bool) (n p : ℕ) (held : Arena-held recs line off n) (lower : p < n) where
-  pub line-below : p < 128
-  line-below = omega (arith, held .based .few)
+module _ (entry line : List ℕ) (off : List Bool) (p : ℕ) (held : Line-held entry line p)
+    (bytes : List ℕ) (c : Copied entry (getD line p 0 * 16) (p * 16) 16 bytes) where
+  room : p * 16 + 16 ≤ length bytes
+  room = omega (arith, held .few, c .size, held .records)
 
-  module _ (entry bytes : List ℕ) (size : length entry ≡ 2048) (c : Copied recs (getD line p 0 * 16) entry (p * 16) 16 bytes) where
-    room : p * 16 + 16 ≤ length bytes
-    room = omega (arith, line-below, c .size, size)
+  own : (stored-expr bytes p ≡ stored-expr entry (getD line p 0)) × Expr-formed bytes p
+  own = same-record bytes entry p (getD line p 0) room (omega (arith, held .few, held .below, held .records)) (c .own) (held .formed)
 
-    there : getD line p 0 * 16 + 16 ≤ length recs
-    there = omega (arith, base-below recs line off n p held lower, held .records)
+  pub line-on : getD off p false ≡ false → Line-stored entry line off p bytes
+  unfolding held-expr
+  line-on e = record { size = c .size; is = rw e (own .0); formed = own .1; before = c .before; behind = c .behind }
 
-    formed : Expr-formed recs (getD line p 0)
-    formed = held .based .formed (getD line p 0) (omega (arith, held .below p lower))
+  pub line-off : getD off p false ≡ true → Line-stored entry line off p (set bytes (p * 16 + 3) 0)
+  unfolding held-expr
+  line-off e =
+      record {
+        size = length-set bytes (p * 16 + 3) 0 ∙ c .size;
+        is = rw e (cleared bytes p room ∙ ap switched-off (own .0));
+        formed = cleared-formed bytes p room (own .1);
+        before = λ j h. getD-set-other bytes (p * 16 + 3) j 0 0 (λ e. omega (arith, e)) ∙ c .before j h;
+        behind = λ j h. getD-set-other bytes (p * 16 + 3) j 0 0 (λ e. omega (arith, e)) ∙ c .behind j h;
+      }
 
-    own-formed : Expr-formed bytes p
-    own-formed = same-formed bytes recs p (getD line p 0) room there (c .own) formed
+-- One line after the other, from the last on -------------------------------------------------------------------------------------
 
-    own : stored-expr bytes p ≡ stored-expr recs (getD line p 0)
-    own = same-expr bytes recs p (getD line p 0) room there (c .own) formed
+-- the lines from p on are stored in the bytes, and the records before them are as they were
+pub record Stored-from (recs line : List ℕ) (off : List Bool) (n p : ℕ) (bytes : List ℕ) : Type 0 where
+  pub most : p ≤ n
+  pub size : length bytes ≡ 2048
+  pub is : (q : ℕ) → p ≤ q → q < n → stored-expr bytes q ≡ held-expr recs line off q
+  pub formed : (q : ℕ) → p ≤ q → q < n → Expr-formed bytes q
+  pub before : (j : ℕ) → j < p * 16 → getD bytes j 0 ≡ getD recs j 0
 
-    -- what is promised of the bytes with line p stored
-    abbrev promise : List ℕ → Type 0
-    promise exit =
-        (length exit ≡ 2048) × (Line-stored recs line off exit p × ((j : ℕ) → j < p * 16 → getD exit j 0 ≡ getD entry j 0))
+module _ (recs line : List ℕ) (off : List Bool) (n : ℕ) (held : Arena-held recs line off n) where
+  pub no-lines : Stored-from recs line off n n recs
+  no-lines =
+      record {
+        most = omega arith;
+        size = held .records;
+        is = λ q a b. absurd (omega arith);
+        formed = λ q a b. absurd (omega arith);
+        before = λ j h. refl;
+      }
 
-    pub line-on : getD off p false ≡ false → promise bytes
+  -- line p is next
+  module _ (above p : ℕ) (next : above ≡ p + 1) (bytes : List ℕ) (k : Stored-from recs line off n above bytes) where
+    abbrev base : ℕ
+    base = getD line p 0
+
+    low : base ≤ p
+    low = held .below p (omega (arith, k .most))
+
+    few : p < 128
+    few = omega (arith, k .most, held .based .few)
+
+    -- the record that it holds is as it was
+    kept : (stored-expr bytes base ≡ stored-expr recs base) × Expr-formed bytes base
+    kept =
+        same-record bytes recs base base (omega (arith, low, few, k .size)) (omega (arith, low, few, held .records))
+        (λ i h. k .before (base * 16 + i) (omega (arith, low))) (held .based .formed base (omega (arith, low, k .most)))
+
+    pub line-held : Line-held bytes line p
+    line-held = record { few = few; records = k .size; below = low; formed = kept .1 }
+
+    holds : held-expr bytes line off p ≡ held-expr recs line off p
     unfolding held-expr
-    line-on e = (c .size ∙ size, (record { is = rw e own; formed = own-formed }, c .before))
+    holds = rw (kept .0)
 
-    pub line-off : getD off p false ≡ true → promise (set bytes (p * 16 + 3) 0)
-    unfolding held-expr
-    line-off e = (
-      length-set bytes (p * 16 + 3) 0 ∙ c .size ∙ size,
-      (
-        record { is = rw e (cleared bytes p room ∙ ap switched-off own); formed = cleared-formed bytes p room own-formed },
-        λ j h. getD-set-other bytes (p * 16 + 3) j 0 0 (λ e. omega (arith, e)) ∙ c .before j h,
-      ),
-    )
+    pub line-more : (exit : List ℕ) → Line-stored bytes line off p exit → Stored-from recs line off n p exit
+    line-more exit new =
+        record {
+          most = omega (arith, k .most);
+          size = new .size ∙ k .size;
+          is = λ q a b. by q a b (ℕ-discrete q p) .0;
+          formed = λ q a b. by q a b (ℕ-discrete q p) .1;
+          before = λ j h. new .before j h ∙ k .before j (omega arith);
+        }
+      where
+        by : (q : ℕ) → p ≤ q → q < n → Dec (q ≡ p) → (stored-expr exit q ≡ held-expr recs line off q) × Expr-formed exit q
+        by q a b (yes e) = rw e (new .is ∙ holds, new .formed)
+        by q a b (no d) =
+            let up : above ≤ q = omega (arith, d) in
+            let there : q * 16 + 16 ≤ length bytes = omega (arith, k .size, held .based .few) in
+            let (e, f) = same-record exit bytes q q (omega (arith, new .size)) there (λ i h. new .behind (q * 16 + i) (omega arith)) (k .formed q up b) in
+            (e ∙ k .is q up b, f)
 
--- One line after the other -------------------------------------------------------------------------------------------------------
-
-module _ (recs line : List ℕ) (off : List Bool) where
-  pub no-lines : (bytes : List ℕ) → length bytes ≡ 2048 → Lines-stored recs line off 0 bytes
-  no-lines bytes size = record { size = size; each = λ p h. absurd (omega arith) }
-
-  pub line-more : (i : ℕ) (entry bytes : List ℕ) → i < 128 → Lines-stored recs line off i entry → length bytes ≡ 2048
-      → Line-stored recs line off bytes i → ((j : ℕ) → j < i * 16 → getD bytes j 0 ≡ getD entry j 0) → Lines-stored recs line off (i + 1) bytes
-  line-more i entry bytes few k size new old = record { size = size; each = λ p h. by p h (ℕ-discrete p i) }
-    where
-      by : (p : ℕ) → p < i + 1 → Dec (p ≡ i) → Line-stored recs line off bytes p
-      by p h (yes e) = subst (Line-stored recs line off bytes) (sym e) new
-      by p h (no n) =
-          let l : p < i = omega (arith, n) in
-          let room : p * 16 + 16 ≤ length bytes = omega (arith, size) in
-          let there : p * 16 + 16 ≤ length entry = omega (arith, k .size) in
-          let was = k .each p l in
-          let same : (j : ℕ) → j < 16 → getD bytes (p * 16 + j) 0 ≡ getD entry (p * 16 + j) 0 = λ j b. old (p * 16 + j) (omega arith) in
-          record {
-            is = same-expr bytes entry p p room there same (was .formed) ∙ was .is;
-            formed = same-formed bytes entry p p room there same (was .formed);
-          }
-
-  pub all-lines : (n i : ℕ) (bytes : List ℕ) → n ≤ i → Lines-stored recs line off i bytes → stored-exprs bytes n ≡ arena-of recs line off n
+  pub all-lines : (p : ℕ) → p ≡ 0 → (bytes : List ℕ) → Stored-from recs line off n p bytes
+      → (stored-exprs bytes n ≡ arena-of recs line off n) × ((i : ℕ) → i < n → Expr-formed bytes i)
   unfolding stored-exprs arena-of
-  all-lines n i bytes h k = same-table (stored-expr bytes) (held-expr recs line off) n (λ p l. k .each p (omega arith) .is)
-
-  pub all-formed : (n i : ℕ) (bytes : List ℕ) → n ≤ i → Lines-stored recs line off i bytes → (p : ℕ) → p < n → Expr-formed bytes p
-  all-formed n i bytes h k p l = k .each p (omega arith) .formed
+  all-lines p z bytes k = (
+    same-table (stored-expr bytes) (held-expr recs line off) n (λ i h. k .is i (omega arith) h),
+    λ i h. k .formed i (omega arith) h,
+  )

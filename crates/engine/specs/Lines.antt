@@ -1,6 +1,6 @@
--- The arena written out, a record for each line; and a run as it is written.
+-- The arena written out in place, a record for each line; and a run as it is written.
 use mathlib.Core.Path.{_≡_}
-use Prim.Native.Nat.{ℕ, _+_, _<_}
+use Prim.Native.Nat.{ℕ, _+_, _*_, _≤_, _<_}
 use mathlib.Core.Bool.{Bool}
 use mathlib.Core.List.{List, _++_}
 use lib.ListN.{length, getD, drop}
@@ -10,21 +10,27 @@ use Rattle.storage.specs.Stored.{stored-expr, held-expr, Expr-formed}
 use Rattle.plan.specs.Text.{printed}
 use Rattle.plan.specs.Visit.{Run}
 
--- n bytes were copied, from a on, to b on; those before b stay
-pub record Copied (from : List ℕ) (a : ℕ) (entry : List ℕ) (b n : ℕ) (exit : List ℕ) : Type 0 where
+-- n bytes were copied, from a on, to b on; all others stay
+pub record Copied (entry : List ℕ) (a b n : ℕ) (exit : List ℕ) : Type 0 where
   pub size : length exit ≡ length entry
-  pub own : (k : ℕ) → k < n → getD exit (b + k) 0 ≡ getD from (a + k) 0
+  pub own : (k : ℕ) → k < n → getD exit (b + k) 0 ≡ getD entry (a + k) 0
   pub before : (j : ℕ) → j < b → getD exit j 0 ≡ getD entry j 0
+  pub behind : (j : ℕ) → b + n ≤ j → getD exit j 0 ≡ getD entry j 0
 
--- the bytes hold line p's record as record p
-pub record Line-stored (recs line : List ℕ) (off : List Bool) (bytes : List ℕ) (p : ℕ) : Type 0 where
-  pub is : stored-expr bytes p ≡ held-expr recs line off p
-  pub formed : Expr-formed bytes p
+-- line p holds its own record or a lower one
+pub record Line-held (recs line : List ℕ) (p : ℕ) : Type 0 where
+  pub few : p < 128
+  pub records : length recs ≡ 2048
+  pub below : getD line p 0 ≤ p
+  pub formed : Expr-formed recs (getD line p 0)
 
--- the first n do
-pub record Lines-stored (recs line : List ℕ) (off : List Bool) (n : ℕ) (bytes : List ℕ) : Type 0 where
-  pub size : length bytes ≡ 2048
-  pub each : (p : ℕ) → p < n → Line-stored recs line off bytes p
+-- what line p held is record p now, and all others stay
+pub record Line-stored (entry line : List ℕ) (off : List Bool) (p : ℕ) (exit : List ℕ) : Type 0 where
+  pub size : length exit ≡ length entry
+  pub is : stored-expr exit p ≡ held-expr entry line off p
+  pub formed : Expr-formed exit p
+  pub before : (j : ℕ) → j < p * 16 → getD exit j 0 ≡ getD entry j 0
+  pub behind : (j : ℕ) → p * 16 + 16 ≤ j → getD exit j 0 ≡ getD entry j 0
 
 -- The run was written over the front of a buffer, and f says where its blocks end and what its figures are. `run` gives it from the
 -- producers, the places gone back along and the sorts removed: of all these only the number of the sorts is written

@@ -26,9 +26,9 @@ use writing::finished::BlockCounts;
 use writing::finished::Tallies;
 use writing::finished::put_finished;
 
-// What the walks leave, as text.
+// What the walks leave, as text. The arena is written out over its records first.
 fn write_run(
-    recs: &[u8; 2048],
+    recs: &mut [u8; 2048],
     line: &[u8; 128],
     off: &[bool; 128],
     steps: &[u8; 1024],
@@ -44,12 +44,11 @@ fn write_run(
     requires { ⌜ Arena-held (now recs) (now line) (now off) (f .exprs) × Steps-held (now steps) «n_steps» × (edges ≤ 256) ⌝ }
     ensures { λ r. ⌜ Run-wrote (λ p b d. run-of (now (recs .entry)) (now (line .entry)) (now (off .entry)) (f .exprs) (now (steps .entry)) «n_steps» (now (consumer .entry)) (now (slot .entry)) p (now (unordered .entry)) edges b d (f .tally)) (f .removed) (now (out .entry)) (now (out .exit)) r ⌝ }
 {
-    let mut exprs: [u8; 2048] = [0; 2048];
-    store_lines(recs, line, off, f.exprs, &mut exprs);
+    store_lines(recs, line, off, f.exprs);
     let tally = f.tally;
     put_finished(
         out,
-        &exprs,
+        recs,
         steps,
         consumer,
         slot,

@@ -1,57 +1,64 @@
-use native.Mathlib.Omega.{arith}
+use denote.Ref.{now}
+use Prim.Native.Nat.{_*_}
+use mathlib.Core.Logic.{⊎-elim}
+use lib.ListN.{getD}
+use Rattle.engine.specs.Lines.{Copied}
+use Rattle.engine.proofs.ArenaLaws.{own-copied, line-on, line-off}
 use borrow.Author.Needs.{needs}
-use Rattle.simplify_ordering.proofs.ImplodeLaws.{base-below}
-use Rattle.engine.proofs.ArenaLaws.{line-below, line-on, line-off}
 use Rattle.engine.proofs.arena.store_line.Statement.{statement}
 use Rattle.engine.proofs.arena.store_line.Tie as tie
-
-mul-b : tie.Need-mul-b
-mul-b c = search needs
 
 element-copy-out-l : tie.Need-element-copy-out-l
 element-copy-out-l c = search needs
 
 cast-l : tie.Need-cast-l
-cast-l c = omega (arith, base-below _ _ _ _ (c .before .args .p) (c .before .pre .0) (c .before .pre .1))
+cast-l c = search needs
 
 mul-copy-record : tie.Need-mul-copy-record
-mul-copy-record c = omega (arith, base-below _ _ _ _ (c .before .args .p) (c .before .pre .0) (c .before .pre .1))
+mul-copy-record c = search needs
+
+mul-copy-record-2 : tie.Need-mul-copy-record-2
+mul-copy-record-2 c = search needs
 
 copy-record-requires : tie.Need-copy-record-requires
-copy-record-requires c κs =
-    let p = c .before .before .pre in
-    (omega (arith, base-below _ _ _ _ _ (p .0) (p .1)), omega (arith, line-below _ _ _ _ _ (p .0) (p .1)), p .2)
+copy-record-requires c κs = search needs
 
-element-copy-out-if1 : tie.Need-element-copy-out-if1
-element-copy-out-if1 c = search needs
+element-copy-out-if2 : tie.Need-element-copy-out-if2
+element-copy-out-if2 c = search needs
 
-add-exprs : tie.Need-add-exprs
-add-exprs c = search needs
+mul-recs : tie.Need-mul-recs
+mul-recs c = search needs
 
-element-write-exprs : tie.Need-element-write-exprs
-element-write-exprs c = search needs
+add-recs : tie.Need-add-recs
+add-recs c = search needs
+
+element-write-recs : tie.Need-element-write-recs
+element-write-recs c = search needs
+
+-- the record is in its place, whether it was copied or was there
+copied : (c : tie.Joined1)
+    → let s = c .before .before in Copied (now (s .args .recs)) (getD (now (s .args .line)) (s .args .p) 0 * 16) (s .args .p * 16) 16 (c .if1 .recs)
+copied c =
+    ⊎-elim (λ w. rw (w .3) (w .2 .ensures)) (λ w. rw (w .1) (own-copied _ _ _ (w .0 .left))) (c .if1 .came)
 
 returns : tie.Need-returns
-returns c =
-    let p = c .before .before .before .before .before .pre in
-    line-off _ _ _ _ _ (p .0) (p .1) _ _ (p .2) (c .before .before .copy-record .ensures) (c .if1 .taken)
+returns c = line-off _ _ _ _ (c .before .before .before .before .pre) _ (copied (c .before .before)) (c .if2 .taken)
 
 returns-2 : tie.Need-returns-2
-returns-2 c =
-    let p = c .before .before .before .before .before .pre in
-    line-on _ _ _ _ _ (p .0) (p .1) _ _ (p .2) (c .before .before .copy-record .ensures) (c .if1 .left)
+returns-2 c = line-on _ _ _ _ (c .before .before .before .before .pre) _ (copied (c .before .before)) (c .if2 .left)
 
 pub store-line-spec : {M : Type 1} → statement M
 store-line-spec =
     tie.close
     (tie.spec
-    mul-b
     element-copy-out-l
     cast-l
     mul-copy-record
+    mul-copy-record-2
     copy-record-requires
-    element-copy-out-if1
-    add-exprs
-    element-write-exprs
+    element-copy-out-if2
+    mul-recs
+    add-recs
+    element-write-recs
     returns
     returns-2)

@@ -1,41 +1,40 @@
 use native.Mathlib.Omega.{arith}
-use Prim.Native.Nat.{_-_}
-use Rattle.engine.specs.Lines.{Lines-stored}
-use Rattle.engine.proofs.ArenaLaws.{no-lines, line-more, line-below, all-lines, all-formed}
+use borrow.Author.Needs.{needs}
+use Rattle.engine.proofs.ArenaLaws.{Stored-from, no-lines, line-held, line-more, all-lines}
 use Rattle.engine.proofs.arena.store_lines.Statement.{statement}
 use Rattle.engine.proofs.arena.store_lines.Tie as tie
 
 abbrev Inv-loop : tie.InvT-loop
-Inv-loop recs line off n exprs₀ p₀ exprs p = Lines-stored recs line off p exprs
+Inv-loop recs₀ line off n p₀ recs p = Stored-from recs₀ line off n p recs
 
 abbrev μ-loop : tie.MeasureT-loop
-μ-loop recs line off n exprs₀ p₀ exprs p = n - p
+μ-loop recs₀ line off n p₀ recs p = p
 
 loop-holds : tie.Need-loop-holds Inv-loop μ-loop
-loop-holds c = no-lines _ _ _ _ (c .pre .1)
+loop-holds c = no-lines _ _ _ _ (c .pre)
+
+sub-p : tie.Need-sub-p Inv-loop μ-loop
+sub-p c = search needs
 
 store-line-requires : tie.Need-store-line-requires Inv-loop μ-loop
-store-line-requires c κs = (c .before .before .before .pre .0, c .before .loop-test .taken, c .before .before .loop .inv .size)
-
-add-p : tie.Need-add-p Inv-loop μ-loop
-add-p c =
-    let s = c .before .before .before .before in
-    omega (arith, line-below _ _ _ _ (c .before .before .before .loop .p) (s .pre .0) (c .before .before .loop-test .taken))
+store-line-requires c κs =
+    let l = c .before .before .loop in
+    line-held _ _ _ _ (c .before .before .before .pre) (l .p) _ (omega arith) (l .recs) (l .inv)
 
 loop-less : tie.Need-loop-less Inv-loop μ-loop
-loop-less c = omega (arith, c .before .before .loop-test .taken)
+loop-less c = search needs
 
 loop-again : tie.Need-loop-again Inv-loop μ-loop
 loop-again c =
-    let s = c .before .before .before .before in
     let l = c .before .before .before .loop in
-    let e = c .store-line .ensures in
-    line-more _ _ _ (l .p) (l .exprs) _ (line-below _ _ _ _ (l .p) (s .pre .0) (c .before .before .loop-test .taken)) (l .inv) (e .0) (e .1 .0) (e .1 .1)
+    line-more _ _ _ _ (c .before .before .before .before .pre) (l .p) _ (omega arith) (l .recs) (l .inv) _ (c .store-line .ensures)
 
 returns : tie.Need-returns Inv-loop μ-loop
-returns c = (all-lines _ _ _ _ _ _ (c .loop-test .left) (c .before .loop .inv), all-formed _ _ _ _ _ _ (c .loop-test .left) (c .before .loop .inv))
+returns c =
+    let l = c .before .loop in
+    all-lines _ _ _ _ (c .before .before .pre) (l .p) (omega arith) (l .recs) (l .inv)
 
 pub store-lines-spec : {M : Type 1} → statement M
 store-lines-spec =
     tie.close
-    (tie.spec Inv-loop μ-loop loop-holds store-line-requires add-p loop-less loop-again returns)
+    (tie.spec Inv-loop μ-loop loop-holds sub-p store-line-requires loop-less loop-again returns)
