@@ -28,12 +28,12 @@ use Rattle.expr.specs.Start.{Own-lines, None-off}
 use Rattle.expr.proofs.Asked.{based-of-sheet}
 use Rattle.expr.proofs.Starts.{all-same, arena-at-start}
 use Rattle.simplify_ordering.specs.Arena.{Arena-held}
-use Rattle.node_rules.specs.Held.{producer-of, held-edge, held-edges}
+use Rattle.storage.specs.Edges.{producer-of, stored-edge, stored-edges}
 use Rattle.simplify_ordering.specs.Run.{run-of}
 use Rattle.simplify_ordering.specs.Walks.{sheet-of, Fetch-asks, Orderings-are, Orderings-held}
 use Rattle.simplify_ordering.specs.declared.walks.Fetched.{Fetched}
 use Rattle.simplify_ordering.specs.declared.walks.Orderings.{Orderings}
-use Rattle.writing.specs.Blocks.{stored-edge, stored-edges, Sheet-wrote}
+use Rattle.writing.specs.Blocks.{Sheet-wrote}
 use Rattle.engine.specs.Call.{call, Plan-stored, Graph-made}
 use Rattle.engine.specs.Lines.{Run-wrote}
 
@@ -43,10 +43,10 @@ is-producer : (p : ℕ) → p < 32 → producer-of p ≡ some p
 is-producer p h = rw (ne-eqb p 255 (λ e. omega (arith, e)))
 
 pub edges-as-made : (consumer slot producer : List ℕ) (n : ℕ) → ((k : ℕ) → k < n → getD producer k 0 < 32)
-    → held-edges consumer slot producer (replicate 256 false) n ≡ edges-of consumer slot producer n
-unfolding held-edges held-edge edges-of
+    → stored-edges consumer slot producer (replicate 256 false) n ≡ edges-of consumer slot producer n
+unfolding stored-edges stored-edge edges-of
 edges-as-made consumer slot producer n few =
-    same-table (held-edge consumer slot producer (replicate 256 false)) (λ j. made (getD consumer j 0) (getD slot j 0) (getD producer j 0)) n
+    same-table (stored-edge consumer slot producer (replicate 256 false)) (λ j. made (getD consumer j 0) (getD slot j 0) (getD producer j 0)) n
     (λ j h. rw (is-producer (getD producer j 0) (few j h), all-same 256 j false))
 
 -- What the walks ask -------------------------------------------------------------------------------------------------------------
@@ -88,19 +88,6 @@ module _ (es : List ℕ) (m : ℕ) (ps : List ℕ) (n : ℕ) (k : Plan-stored es
 
 -- What is written ----------------------------------------------------------------------------------------------------------------
 
-same-lines : (f g : ℕ → Edge) (k n : ℕ) → ((j : ℕ) → edge-line (f j) ≡ edge-line (g j))
-    → concat-map edge-line (table f k n) ≡ concat-map edge-line (table g k n)
-unfolding table concat-map
-same-lines f g k zero h = refl
-same-lines f g k (suc n) h = ap₂ (λ (x y : List ℕ). x ++ y) (h k) (same-lines f g (suc k) n h)
-
--- a G line has no producer
-pub edges-printed : (consumer slot producer : List ℕ) (unordered : List Bool) (n : ℕ)
-    → concat-map edge-line (stored-edges consumer slot unordered n) ≡ concat-map edge-line (held-edges consumer slot producer unordered n)
-unfolding stored-edges stored-edge held-edges held-edge edge-line
-edges-printed consumer slot producer unordered n =
-    same-lines (stored-edge consumer slot unordered) (held-edge consumer slot producer unordered) 0 n (λ j. refl)
-
 finished-is : (r : Finished) {a b c d e v l : ℕ} → r .exprs ≡ a → r .steps ≡ b → r .edges ≡ c → r .length ≡ d → r .removed ≡ e → r .visits ≡ v
     → r .looks ≡ l → r ≡ record { exprs = a; steps = b; edges = c; length = d; removed = e; visits = v; looks = l }
 finished-is r i j k l m n o = rw (← i, ← j, ← k, ← l, ← m, ← n, ← o)
@@ -124,7 +111,7 @@ module _ (recs line : List ℕ) (off : List Bool) (m : ℕ) (steps : List ℕ) (
   run producer back gone = run-of recs line off m steps n consumer slot producer unordered edges back gone tally
 
   pub run-wrote : stored-exprs xs m ≡ arena-of recs line off m
-      → Sheet-wrote (concat-map expr-line (stored-exprs xs m)) (concat-map step-line (stored-steps steps n)) (concat-map edge-line (stored-edges consumer slot unordered edges)) (text.line 84 (removed ∷ tally .visits ∷ tally .looks ∷ [])) entry exit f
+      → ((producer : List ℕ) → Sheet-wrote (concat-map expr-line (stored-exprs xs m)) (concat-map step-line (stored-steps steps n)) (concat-map edge-line (stored-edges consumer slot producer unordered edges)) (text.line 84 (removed ∷ tally .visits ∷ tally .looks ∷ [])) entry exit f)
       → (f .removed ≡ removed) × (f .visits ≡ tally .visits) × (f .looks ≡ tally .looks)
       → Run-wrote run removed entry exit f
   unfolding exprs-block steps-block edges-block tally-line
@@ -132,13 +119,11 @@ module _ (recs line : List ℕ) (off : List Bool) (m : ℕ) (steps : List ℕ) (
       record {
         answer =
             λ producer back gone same.
-            answer-is (run producer back gone) _ _ _ _ entry exit f w (ap (concat-map expr-line) e) refl
-            (edges-printed consumer slot producer unordered edges) (ap (λ (k : ℕ). text.line 84 (k ∷ tally .visits ∷ tally .looks ∷ [])) same)
+            answer-is (run producer back gone) _ _ _ _ entry exit f (w producer) (ap (concat-map expr-line) e) refl refl (ap (λ (k : ℕ). text.line 84 (k ∷ tally .visits ∷ tally .looks ∷ [])) same)
             (x ∙ same) y z;
         bytes =
             λ producer back gone same.
-            bytes-are (run producer back gone) _ _ _ _ entry exit f w (ap (concat-map expr-line) e) refl
-            (edges-printed consumer slot producer unordered edges) (ap (λ (k : ℕ). text.line 84 (k ∷ tally .visits ∷ tally .looks ∷ [])) same);
+            bytes-are (run producer back gone) _ _ _ _ entry exit f (w producer) (ap (concat-map expr-line) e) refl refl (ap (λ (k : ℕ). text.line 84 (k ∷ tally .visits ∷ tally .looks ∷ [])) same);
       }
 
 -- What the walks' outcome makes of the call --------------------------------------------------------------------------------------
