@@ -1,19 +1,16 @@
 -- Laws of the stages: what the walks ask of a graph as it is made, and what is written of the run that they leave.
 use mathlib.Core.Path.{_≡_, refl, sym, ap, ap₂, _∙_, subst}
-use Prim.Native.Nat.{ℕ, zero, suc, _<_}
+use Prim.Native.Nat.{ℕ}
 use native.Mathlib.Omega.{arith}
 use mathlib.Core.Bool.{Bool, false}
 use mathlib.Core.List.{List, [], _∷_, _++_}
-use mathlib.Core.Option.{some}
-use lib.ListN.{length, getD, drop, replicate, length-replicate}
-use borrow.Author.Tests.{ne-eqb}
+use lib.ListN.{length, drop, replicate, length-replicate}
 use Rattle.plan.specs.declared.answer.Answer.{Answer}
 use Rattle.plan.specs.declared.answer.Finished.{Finished}
 use Rattle.plan.specs.Lists.{concat-map}
 use Rattle.plan.specs.Finished.{called, finished-answer}
-use Rattle.plan.specs.Graph.{Edge}
 use Rattle.plan.specs.Sheet.{Sheet, done}
-use Rattle.storage.specs.Stored.{table, arena-of, stored-exprs, stored-steps}
+use Rattle.storage.specs.Stored.{arena-of, stored-exprs, stored-steps}
 use Rattle.storage.proofs.Laws.{same-table, length-steps}
 use Rattle.plan.specs.Text.{expr-line, step-line, edge-line, tally-line, exprs-block, steps-block, edges-block, printed, blocks, joined, end-of}
 use Rattle.plan.specs.Text as text
@@ -21,14 +18,14 @@ use Rattle.plan.specs.Visit.{Run}
 use Rattle.plan.specs.Walks.{simplify-and-fetch-orderings}
 use Rattle.claims.specs.WellFormed.{WellFormed}
 use Rattle.reading.specs.Held.{sheet}
-use Rattle.ir_graph.specs.Edges.{made, edges-of}
+use Rattle.ir_graph.specs.Edges.{made-edges}
 use Rattle.ir_graph.specs.declared.ir_graph.Graph.{Graph}
 use Rattle.plan.specs.declared.tally.Tally.{Tally}
 use Rattle.expr.specs.Start.{Own-lines, None-off}
 use Rattle.expr.proofs.Asked.{based-of-sheet}
 use Rattle.expr.proofs.Starts.{all-same, arena-at-start}
 use Rattle.simplify_ordering.specs.Arena.{Arena-held}
-use Rattle.storage.specs.Edges.{producer-of, stored-edge, stored-edges}
+use Rattle.storage.specs.Edges.{stored-edge, stored-edges}
 use Rattle.simplify_ordering.specs.Run.{run-of}
 use Rattle.simplify_ordering.specs.Walks.{sheet-of, Fetch-asks, Orderings-are, Orderings-held}
 use Rattle.simplify_ordering.specs.declared.walks.Fetched.{Fetched}
@@ -39,15 +36,11 @@ use Rattle.engine.specs.Lines.{Run-wrote}
 
 -- Edges as they are made ---------------------------------------------------------------------------------------------------------
 
-is-producer : (p : ℕ) → p < 32 → producer-of p ≡ some p
-is-producer p h = rw (ne-eqb p 255 (λ e. omega (arith, e)))
-
-pub edges-as-made : (consumer slot producer : List ℕ) (n : ℕ) → ((k : ℕ) → k < n → getD producer k 0 < 32)
-    → stored-edges consumer slot producer (replicate 256 false) n ≡ edges-of consumer slot producer n
-unfolding stored-edges stored-edge edges-of
-edges-as-made consumer slot producer n few =
-    same-table (stored-edge consumer slot producer (replicate 256 false)) (λ j. made (getD consumer j 0) (getD slot j 0) (getD producer j 0)) n
-    (λ j h. rw (is-producer (getD producer j 0) (few j h), all-same 256 j false))
+-- whether the array of marks is there or not
+edges-as-made : (consumer slot producer : List ℕ) (n : ℕ) → stored-edges consumer slot producer (replicate 256 false) n ≡ made-edges consumer slot producer n
+unfolding stored-edges stored-edge
+edges-as-made consumer slot producer n =
+    same-table (stored-edge consumer slot producer (replicate 256 false)) (stored-edge consumer slot producer []) n (λ j h. rw (all-same 256 j false))
 
 -- What the walks ask -------------------------------------------------------------------------------------------------------------
 
@@ -82,7 +75,7 @@ module _ (es : List ℕ) (m : ℕ) (ps : List ℕ) (n : ℕ) (k : Plan-stored es
           formed = subst WellFormed (sym sheet-at-start) (k .formed);
           few = made .few-places;
           places-are = made .places-are;
-          edges-are = edges-as-made consumer slot producer (g .edges) (made .producers) ∙ made .edges-are;
+          edges-are = edges-as-made consumer slot producer (g .edges) ∙ made .edges-are;
           rows = λ i h. made .rows i (omega (arith, h, length-steps ps n));
         }
 

@@ -1,5 +1,5 @@
 -- A step's edges as a visit finds them, from those into it and those out of it.
-use mathlib.Core.Path.{_≡_, ap, _∙_}
+use mathlib.Core.Path.{_≡_}
 use Prim.Native.Nat.{ℕ, _+_, _<_}
 use native.Mathlib.Omega.{arith}
 use mathlib.Core.Bool.{Bool, false}
@@ -7,7 +7,6 @@ use mathlib.Core.List.{List}
 use lib.Dec.{ltb}
 use lib.ListN.{getD}
 use Rattle.plan.specs.Lists.{if_then_else_, all?}
-use Rattle.plan.specs.declared.rules.Around.{Around}
 use Rattle.plan.specs.Visit.{around, outs-unordered}
 use Rattle.claims.specs.Demand3.{leaving-among}
 use Rattle.node_rules.specs.declared.around.InEdges.{InEdges}

@@ -1,7 +1,7 @@
 -- The edges after they are loosened and relinked, from what the loops do to the arrays.
 use mathlib.Core.Path.{_≡_, refl, sym, ap, ap₂, _∙_}
 use mathlib.Core.Logic.{_⊎_, inl, inr}
-use Prim.Native.Nat.{ℕ, zero, suc, _≤_, _<_}
+use Prim.Native.Nat.{ℕ, _≤_, _<_}
 use native.Mathlib.Omega.{arith}
 use native.Mathlib.Decide.{decLt}
 use mathlib.Core.Bool.{Bool, true, false, _&&_, _||_, not}
@@ -11,7 +11,6 @@ use lib.Dec.{eqb}
 use lib.ListN.{getD}
 use Rattle.plan.specs.Lists.{if_then_else_}
 use Rattle.plan.specs.Graph.{Edge}
-use Rattle.storage.specs.Stored.{table}
 use Rattle.storage.proofs.Laws.{same-table}
 use Rattle.plan.specs.declared.rules.Loosened.{Loosened}
 use Rattle.plan.specs.Visit.{is-into, is-out-of, loosened, relinked}

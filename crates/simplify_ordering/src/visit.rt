@@ -1,8 +1,8 @@
 // A visit to a step: simplify_ir_node_orders.
 ghost use mathlib.Core.Path.{_≡_};
 ghost use mathlib.Core.Bool.{_&&_, not};
-ghost use mathlib.Core.List.{List, []};
-ghost use Prim.Native.Nat.{ℕ, _≤_, _<_};
+ghost use mathlib.Core.List.{[]};
+ghost use Prim.Native.Nat.{_≤_, _<_};
 ghost use lib.ListN.{length};
 ghost use Rattle.plan.specs.Kinds.{same-ir};
 ghost use Rattle.plan.specs.declared.ir.IR.{IR};
