@@ -17,7 +17,7 @@ use Rattle.plan.specs.Kinds.{aexpr, same-aexpr}
 use Rattle.plan.specs.Lists.{if_then_else_, first-last}
 use Rattle.plan.specs.Sheet.{Expr}
 use Rattle.plan.specs.Orders.{∅, COLUMN, INDEPENDENT, _∪_, no-orders, add}
-use Rattle.plan.specs.Look.{NO-DEORDER, Eos, with-field, before, in-order, After, after, plain, enter-struct, Look, look-along, look-along-children, look-ended}
+use Rattle.plan.specs.Look.{NO-DEORDER, Eos, with-field, before, in-order, after, plain, enter-struct, Look, look-along, look-along-children, look-ended}
 use Rattle.expr.specs.declared.seen.Seen.{Seen}
 use Rattle.expr.specs.declared.record.ExprRecord.{ExprRecord}
 use Rattle.expr.specs.Seen.{Sees}

@@ -5,7 +5,7 @@ use native.Mathlib.Omega.{arith}
 use mathlib.Core.Bool.{Bool, true, false}
 use Rattle.plan.specs.declared.orders.ObservableOrders.{ObservableOrders}
 use Rattle.expr.specs.declared.eos.Eos.{Eos}
-use Rattle.expr.specs.Eos.{code, orders, Own, own-of, no-looks, one-look, with-field, with-observed, with-answer}
+use Rattle.expr.specs.Eos.{code, orders, own-of, no-looks, one-look, with-field, with-observed, with-answer}
 
 back : (a b : Bool) → orders (code (record { column = a; independent = b })) ≡ record { column = a; independent = b }
 back true true = refl

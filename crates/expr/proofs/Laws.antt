@@ -10,7 +10,6 @@ use lib.ListN.{take, drop}
 use Rattle.plan.specs.declared.looks.Before.{Before}
 use Rattle.plan.specs.declared.orders.ExprOrderAcc.{ExprOrderAcc}
 use Rattle.plan.specs.declared.orders.ObservableOrders.{ObservableOrders}
-use Rattle.plan.specs.Lists.{if_then_else_}
 use Rattle.plan.specs.Sheet.{Expr, expr-at}
 use Rattle.plan.specs.Orders.{no-orders, add}
 use Rattle.plan.specs.Look.{NO-DEORDER, Eos, one-look, before, in-order, check-return-cached, is-replaced, replace-by-input, After, after, enter-struct, Look, look-along, look-again, look-along-children, look-ended, look-whole, look-at, look}

@@ -8,7 +8,7 @@ use plan::orders::ObservableOrders;
 // holds now, and `off` whether its Implode was switched off.
 pub struct Eos {
     // looks * 64 + struct_field_ordering * 16 + internally_observed * 4 + the last look's answer.
-    pub bits: u64,
+    bits: u64,
 }
 
 // An order set as a number: 1 for COLUMN and 2 for INDEPENDENT.

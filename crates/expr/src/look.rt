@@ -168,16 +168,8 @@ pub fn look(
     let w = look_along(recs, line, off, cache, n, t, e, b);
     let seen = w.seen;
     let v = After::of(e, allow, field, seen);
-    let u = look_again(
-        recs,
-        line,
-        off,
-        cache,
-        n,
-        w.state,
-        v,
-        seen.acc.last_ordered_node,
-    );
+    let node = seen.acc.last_ordered_node;
+    let u = look_again(recs, line, off, cache, n, w.state, v, node);
     look_ended(off, cache, u, p, e, v, field, seen.first)
 }
 
