@@ -6,7 +6,7 @@ ghost use Prim.Native.Nat.{_+_, _≤_, _<_};
 ghost use lib.ListN.{length, take};
 ghost use Rattle.expr.specs.State.{Falls};
 ghost use Rattle.expr.specs.Read.{Read-exprs};
-use expr::look::Eos;
+use expr::eos::Eos;
 use expr::projected::expr_order_simplifier;
 use expr::projected::simplify_projected_exprs;
 use expr::start::none_off;
@@ -14,7 +14,6 @@ use expr::start::own_lines;
 use libc::STDOUT_FILENO;
 use plan::orders::ObservableOrders;
 use plan::sizes::size_2048;
-use plan::tally::Tally;
 use reading::read_plan;
 
 fn wide(x: u8) -> usize
@@ -107,16 +106,13 @@ struct Case {
 
 // Do the answer, what was observed and the looks agree?
 fn answers_agree(s: Eos, c: Case) -> bool {
-    let answer = s.answer;
-    if bits(answer) != c.answer {
+    if bits(s.answer()) != c.answer {
         return false;
     }
-    let observed = s.observed;
-    if bits(observed) != c.observed {
+    if bits(s.observed()) != c.observed {
         return false;
     }
-    let tally = s.tally;
-    tally.looks == c.looks as u64
+    s.looks() == c.looks as u64
 }
 
 // Do the looks at the case's list come to what the case says, and leave the records of b?
@@ -128,13 +124,7 @@ fn list_agrees(recs: &[u8; 2048], n: usize, c: Case, b: &[u8]) -> bool
     let mut line = own_lines();
     let mut off = none_off();
     let mut cache: [u8; 128] = [0; 128];
-    let start = expr_order_simplifier(
-        &mut cache,
-        Tally {
-            visits: 0,
-            looks: 0,
-        },
-    );
+    let start = expr_order_simplifier();
     let nodes = c.nodes;
     let s = simplify_projected_exprs(
         recs,
