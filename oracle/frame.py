@@ -6,7 +6,7 @@ what is told. The modules of crates/cases say what these are in each folder. The
 import pathlib
 
 CRATE = pathlib.Path(__file__).resolve().parent.parent / "crates" / "cases"
-FOLDERS = ["reading", "graph", "sheets", "papers"]
+FOLDERS = ["reading", "graph", "lists", "sheets", "papers"]
 
 
 def two(n):

@@ -15,8 +15,8 @@ from frame import freeze, two
 
 
 def reading(answer, sheet):
-    """The refusal's number, or 0 and the counts of E and P lines."""
-    return sheet, b"", bytes([0, *answer] if isinstance(answer, tuple) else [answer, 0, 0])
+    """What is told is the refusal's number, or the counts of E and P lines."""
+    return sheet, b"", bytes(answer if isinstance(answer, tuple) else [answer])
 
 
 def paper(case):

@@ -2,7 +2,7 @@
 use Prim.Native.Nat.{ℕ, _≤_}
 use mathlib.Core.List.{List}
 use lib.ListN.{length}
-use Rattle.cases.specs.declared.frame.Case.{Case}
+use Rattle.cases.specs.declared.frame.Parts.{Parts}
 
-abbrev pub Within : Case → List ℕ → Type 0
+abbrev pub Within : Parts → List ℕ → Type 0
 Within c buf = (c .sheet ≤ c .asked) × (c .asked ≤ c .told) × (c .told ≤ length buf)

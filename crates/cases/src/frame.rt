@@ -6,9 +6,9 @@ ghost use lib.ListN.{length};
 ghost use Rattle.io.specs.Counts.{Counts};
 ghost use Rattle.cases.specs.Within.{Within};
 
-// Where the parts end, in the bytes after the lengths. `ended` is set where the file has no case more, and `whole` where it
-// has all of this one.
-pub struct Case {
+// Where the parts of a case end, in the bytes after the lengths. `ended` is set where the file has no case more, and `whole`
+// where it has all of this one.
+pub struct Parts {
     pub ended: bool,
     pub whole: bool,
     pub sheet: usize,
@@ -39,7 +39,7 @@ fn read_front(fd: i32, buf: &mut [u8], n: usize) -> usize
 }
 
 // Reads the next case, and its parts to the front of the buffer. A case that the buffer can't hold is not whole.
-pub fn read_case(fd: i32, buf: &mut [u8]) -> Case
+pub fn read_case(fd: i32, buf: &mut [u8]) -> Parts
     ensures { λ r. ⌜ Within r (now (buf .exit)) ⌝ }
 {
     let mut head: [u8; 6] = [0; 6];
@@ -48,7 +48,7 @@ pub fn read_case(fd: i32, buf: &mut [u8]) -> Case
     let asked = sheet + two(&head, 2);
     let told = asked + two(&head, 4);
     if buf.len() < told {
-        return Case {
+        return Parts {
             ended: false,
             whole: false,
             sheet: 0,
@@ -57,7 +57,7 @@ pub fn read_case(fd: i32, buf: &mut [u8]) -> Case
         };
     }
     let m = read_front(fd, buf, told);
-    Case {
+    Parts {
         ended: n == 0,
         whole: (n == 6) & (m == told),
         sheet,

@@ -1,7 +1,7 @@
 // Runs the frozen cases of each folder of data/, and prints for each how many agree.
 // The scripts oracle/freeze_*.py make the data. The module of a folder's name has the comparison.
 ghost use Rattle.cases.specs.Within.{Within};
-use crate::frame::Case;
+use crate::frame::Parts;
 use crate::frame::read_case;
 use crate::score::Score;
 use crate::score::counted;
@@ -9,6 +9,7 @@ use crate::score::report;
 
 mod frame;
 mod graph;
+mod lists;
 mod papers;
 mod read;
 mod score;
@@ -17,6 +18,7 @@ mod sheets;
 enum Folder {
     Reading,
     Graph,
+    Lists,
     Sheets,
     Papers,
 }
@@ -32,13 +34,14 @@ fn agrees(
     match folder {
         Folder::Reading => crate::read::agrees(sheet, asked, told),
         Folder::Graph => crate::graph::agrees(sheet, asked, told),
+        Folder::Lists => crate::lists::agrees(sheet, asked, told),
         Folder::Sheets => crate::sheets::agrees(sheet, asked, told, answers),
         Folder::Papers => crate::papers::agrees(sheet, asked, told),
     }
 }
 
 // Is the case whose parts stand in the buffer whole, and does it agree?
-fn case_agrees(folder: Folder, c: Case, buf: &[u8], answers: &mut [u64; 13]) -> bool
+fn case_agrees(folder: Folder, c: Parts, buf: &[u8], answers: &mut [u64; 13]) -> bool
     requires { ⌜ Within c (now buf) ⌝ }
 {
     if !c.whole {
@@ -89,6 +92,7 @@ fn main() {
     let mut answers: [u64; 13] = [0; 13];
     run_folder(b"reading", b"reading/cases", Folder::Reading, &mut answers);
     run_folder(b"graph", b"graph/cases", Folder::Graph, &mut answers);
+    run_folder(b"lists", b"lists/cases", Folder::Lists, &mut answers);
     run_folder(b"sheets", b"sheets/cases", Folder::Sheets, &mut answers);
     crate::sheets::report_answers(&answers);
     run_folder(b"papers", b"papers/cases", Folder::Papers, &mut answers);

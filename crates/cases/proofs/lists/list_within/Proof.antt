@@ -1,7 +1,7 @@
 use borrow.Author.Needs.{needs}
-use Rattle.expr_cases.proofs.Nodes.{not-false}
-use Rattle.expr_cases.proofs.list_within.Statement.{statement}
-use Rattle.expr_cases.proofs.list_within.Tie as tie
+use Rattle.cases.proofs.Nodes.{not-false}
+use Rattle.cases.proofs.lists.list_within.Statement.{statement}
+use Rattle.cases.proofs.lists.list_within.Tie as tie
 
 below-requires : tie.Need-below-requires
 below-requires c κs = search needs

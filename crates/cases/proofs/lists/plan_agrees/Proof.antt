@@ -1,8 +1,8 @@
 use Rattle.reading.proofs.Accepted.{read-plan}
-use Rattle.expr_cases.proofs.Accepted.{read-exprs}
+use Rattle.cases.proofs.Accepted.{read-exprs}
 use borrow.Author.Needs.{needs}
-use Rattle.expr_cases.proofs.agrees.Statement.{statement}
-use Rattle.expr_cases.proofs.agrees.Tie as tie
+use Rattle.cases.proofs.lists.plan_agrees.Statement.{statement}
+use Rattle.cases.proofs.lists.plan_agrees.Tie as tie
 
 read-plan-requires : tie.Need-read-plan-requires
 read-plan-requires c κs = search needs
@@ -26,8 +26,8 @@ returns c = search needs
 returns-2 : tie.Need-returns-2
 returns-2 c = search needs
 
-pub agrees-spec : {M : Type 1} → statement M
-agrees-spec =
+pub plan-agrees-spec : {M : Type 1} → statement M
+plan-agrees-spec =
     tie.close
     (tie.spec
     read-plan-requires

@@ -1,8 +1,8 @@
 use Prim.Native.Nat.{_-_}
 use lib.ListN.{length}
 use borrow.Author.Needs.{needs}
-use Rattle.expr_cases.proofs.record_agrees.Statement.{statement}
-use Rattle.expr_cases.proofs.record_agrees.Tie as tie
+use Rattle.cases.proofs.lists.record_agrees.Statement.{statement}
+use Rattle.cases.proofs.lists.record_agrees.Tie as tie
 
 abbrev Inv-loop : tie.InvT-loop
 Inv-loop recs l off b at count i₀ i = Unit {0}

@@ -2,8 +2,8 @@ use mathlib.Core.Path.{_≡_}
 use Prim.Native.Nat.{_-_}
 use lib.ListN.{length}
 use borrow.Author.Needs.{needs}
-use Rattle.expr_cases.proofs.nodes_of.Statement.{statement}
-use Rattle.expr_cases.proofs.nodes_of.Tie as tie
+use Rattle.cases.proofs.lists.nodes_of.Statement.{statement}
+use Rattle.cases.proofs.lists.nodes_of.Tie as tie
 
 abbrev Inv-loop : tie.InvT-loop
 Inv-loop b nodes₀ i₀ nodes i = length nodes ≡ 8

@@ -3,8 +3,8 @@ use native.Mathlib.Omega.{arith}
 use Rattle.expr.proofs.Asked.{asks-at-start}
 use Rattle.expr.proofs.Starts.{formed-at-start}
 use borrow.Author.Needs.{needs}
-use Rattle.expr_cases.proofs.list_agrees.Statement.{statement}
-use Rattle.expr_cases.proofs.list_agrees.Tie as tie
+use Rattle.cases.proofs.lists.list_agrees.Statement.{statement}
+use Rattle.cases.proofs.lists.list_agrees.Tie as tie
 
 size-2048-requires : tie.Need-size-2048-requires
 size-2048-requires c κs = search needs

@@ -1,10 +1,10 @@
 use native.Mathlib.Omega.{arith}
 use Prim.Native.Nat.{_-_}
 use Rattle.expr.proofs.Records.{no}
-use Rattle.expr_cases.proofs.Nodes.{First-below, none-yet, one-more, all-below}
+use Rattle.cases.proofs.Nodes.{First-below, none-yet, one-more, all-below}
 use borrow.Author.Needs.{needs}
-use Rattle.expr_cases.proofs.below.Statement.{statement}
-use Rattle.expr_cases.proofs.below.Tie as tie
+use Rattle.cases.proofs.lists.below.Statement.{statement}
+use Rattle.cases.proofs.lists.below.Tie as tie
 
 abbrev Inv-loop : tie.InvT-loop
 Inv-loop count n nodes i₀ i = First-below n nodes i

@@ -1,7 +1,7 @@
 use Prim.Native.Nat.{_-_}
 use borrow.Author.Needs.{needs}
-use Rattle.expr_cases.proofs.records_agree.Statement.{statement}
-use Rattle.expr_cases.proofs.records_agree.Tie as tie
+use Rattle.cases.proofs.lists.records_agree.Statement.{statement}
+use Rattle.cases.proofs.lists.records_agree.Tie as tie
 
 abbrev Inv-loop : tie.InvT-loop
 Inv-loop recs n b line off rest₀ q₀ rest q = Unit {0}

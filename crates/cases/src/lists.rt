@@ -1,35 +1,23 @@
-// Runs frozen lists of expressions through the reading and the looks, and compares what comes of them with the Rust's.
-// The files in data/ are made by oracle/freeze_expr_cases.py, which says how it is called and what a case is.
+// A case of the looks at a list of expressions: allow_deordering_top and the list are asked; what is told is the looks in two
+// bytes, the answer, what was internally observed (1 for COLUMN, 2 for INDEPENDENT), and the records after the list, for each
+// its length and K, S, L, a and the children.
 ghost use mathlib.Core.Path.{_≡_};
 ghost use mathlib.Core.Bool.{true};
-ghost use Prim.Native.Nat.{_+_, _≤_, _<_};
+ghost use Prim.Native.Nat.{_≤_, _<_};
 ghost use lib.ListN.{length, take};
 ghost use Rattle.expr.specs.State.{Falls};
 ghost use Rattle.expr.specs.Read.{Read-exprs};
+use crate::frame::two;
+use crate::frame::wide;
 use expr::look::Eos;
 use expr::projected::expr_order_simplifier;
 use expr::projected::simplify_projected_exprs;
 use expr::start::none_off;
 use expr::start::own_lines;
-use libc::STDOUT_FILENO;
 use plan::orders::ObservableOrders;
 use plan::sizes::size_2048;
 use plan::tally::Tally;
 use reading::read_plan;
-
-fn wide(x: u8) -> usize
-    ensures { λ r. ⌜ (r ≡ x) × (r < 256) ⌝ }
-{
-    x as usize
-}
-
-// The number of two bytes, the high one first, at the place i.
-fn two(s: &[u8], i: usize) -> usize
-    requires { ⌜ i + 2 ≤ length (now s) ⌝ }
-    ensures { λ r. ⌜ r < 65536 ⌝ }
-{
-    wide(s[i]) * 256 + wide(s[i + 1])
-}
 
 // 1 for COLUMN and 2 for INDEPENDENT.
 fn bits(o: ObservableOrders) -> u8 {
@@ -181,7 +169,7 @@ fn list_within(recs: &[u8; 2048], n: usize, c: Case, b: &[u8]) -> bool
 }
 
 // Is the sheet accepted, and does its list agree?
-fn agrees(sheet: &[u8], c: Case, b: &[u8]) -> bool
+fn plan_agrees(sheet: &[u8], c: Case, b: &[u8]) -> bool
     requires { ⌜ (c .count ≤ 8) × (length (c .nodes) ≡ 8) ⌝ }
 {
     let mut exprs: [u8; 2048] = [0; 2048];
@@ -205,135 +193,23 @@ fn nodes_of(b: &[u8]) -> [u8; 8]
     nodes
 }
 
-// The length of a case, which is at least 10 bytes long.
-fn whole_length(rest: &[u8]) -> usize
-    requires { ⌜ 10 ≤ length (now rest) ⌝ }
-    ensures { λ r. ⌜ 10 ≤ r ⌝ }
-{
-    10 + two(rest, 0) + wide(rest[9]) + two(rest, 2)
-}
-
-// A case's length: what is left, if that is too short for the case.
-fn case_length(rest: &[u8]) -> usize
-    requires { ⌜ 1 ≤ length (now rest) ⌝ }
-    ensures { λ r. ⌜ (1 ≤ r) × (r ≤ length (now (rest .entry))) ⌝ }
-{
-    if rest.len() < 10 {
-        return rest.len();
-    }
-    let n = whole_length(rest);
-    if rest.len() < n {
-        return rest.len();
-    }
-    n
-}
-
-// Does the case at the front agree?
-fn case_agrees(rest: &[u8]) -> bool {
-    if rest.len() < 10 {
+pub fn agrees(sheet: &[u8], asked: &[u8], told: &[u8]) -> bool {
+    if asked.len() == 0 {
         return false;
     }
-    let count = rest[9];
-    if 8 < count {
+    if 9 < asked.len() {
         return false;
     }
-    let entries = 10 + two(rest, 0);
-    let records = entries + wide(count);
-    let end = records + two(rest, 2);
-    if rest.len() < end {
+    if told.len() < 4 {
         return false;
     }
     let c = Case {
-        looks: two(rest, 4),
-        allow: rest[6] == 1,
-        answer: rest[7],
-        observed: rest[8],
-        count: count,
-        nodes: nodes_of(&rest[entries..records]),
+        looks: two(told, 0),
+        allow: asked[0] == 1,
+        answer: told[2],
+        observed: told[3],
+        count: (asked.len() - 1) as u8,
+        nodes: nodes_of(&asked[1..]),
     };
-    agrees(&rest[10..entries], c, &rest[records..end])
-}
-
-// How many cases there are, how many of them agree, and the first that does not, counted from 1.
-struct Score {
-    all: usize,
-    agree: usize,
-    first: usize,
-}
-
-fn counted(s: Score, good: bool) -> Score
-    requires { ⌜ (s .all < 18446744073709551615) × (s .agree ≤ s .all) ⌝ }
-    ensures { λ r. ⌜ (r .all ≤ s .all + 1) × (r .agree ≤ r .all) ⌝ }
-{
-    let all = s.all + 1;
-    if good {
-        return Score {
-            all,
-            agree: s.agree + 1,
-            first: s.first,
-        };
-    }
-    if s.agree < s.all {
-        return Score {
-            all,
-            agree: s.agree,
-            first: s.first,
-        };
-    }
-    Score {
-        all,
-        agree: s.agree,
-        first: all,
-    }
-}
-
-fn run_all(start: Score, cases: &[u8]) -> Score
-    requires { ⌜ (start .all + length (now cases) < 18446744073709551615) × (start .agree ≤ start .all) ⌝ }
-    ensures { λ r. ⌜ (r .all ≤ start .all + length (now (cases .entry))) × (r .agree ≤ r .all) ⌝ }
-{
-    let mut s = start;
-    let mut rest = cases;
-    while 0 < rest.len() {
-        s = counted(s, case_agrees(rest));
-        let n = case_length(rest);
-        rest = &rest[n..];
-    }
-    s
-}
-
-// The cases of a file; none, if it can't be opened.
-fn run_file(path: &[u8], s: Score) -> Score
-    requires { ⌜ (s .all ≤ 1000000) × (s .agree ≤ s .all) ⌝ }
-    ensures { λ r. ⌜ (r .all ≤ s .all + 65536) × (r .agree ≤ r .all) ⌝ }
-{
-    let fd = os::open_read(path);
-    if fd < 0 {
-        os::fail(path);
-        return s;
-    }
-    let mut buf = io::large_buffer();
-    let n = io::read_full(fd, &mut buf);
-    libc::close(fd);
-    run_all(s, &buf[..n])
-}
-
-fn report(s: Score) {
-    io::print_decimal(STDOUT_FILENO, s.agree as u64);
-    io::write_all(STDOUT_FILENO, b" of ");
-    io::print_decimal(STDOUT_FILENO, s.all as u64);
-    io::write_all(STDOUT_FILENO, b" agree\n");
-    if s.agree != s.all {
-        io::write_all(STDOUT_FILENO, b"the first that differs is ");
-        io::print_decimal(STDOUT_FILENO, s.first as u64);
-        io::write_all(STDOUT_FILENO, b"\n");
-    }
-}
-
-fn main() {
-    let none = Score {
-        all: 0,
-        agree: 0,
-        first: 0,
-    };
-    report(run_file(b"chains", run_file(b"trees", run_file(b"kinds", none))));
+    plan_agrees(sheet, c, &told[4..])
 }
