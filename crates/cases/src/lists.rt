@@ -9,14 +9,13 @@ ghost use Rattle.expr.specs.State.{Falls};
 ghost use Rattle.expr.specs.Read.{Read-exprs};
 use crate::frame::two;
 use crate::frame::wide;
-use expr::look::Eos;
+use expr::eos::Eos;
 use expr::projected::expr_order_simplifier;
 use expr::projected::simplify_projected_exprs;
 use expr::start::none_off;
 use expr::start::own_lines;
 use plan::orders::ObservableOrders;
 use plan::sizes::size_2048;
-use plan::tally::Tally;
 use reading::read_plan;
 
 // 1 for COLUMN and 2 for INDEPENDENT.
@@ -95,16 +94,13 @@ struct Case {
 
 // Do the answer, what was observed and the looks agree?
 fn answers_agree(s: Eos, c: Case) -> bool {
-    let answer = s.answer;
-    if bits(answer) != c.answer {
+    if bits(s.answer()) != c.answer {
         return false;
     }
-    let observed = s.observed;
-    if bits(observed) != c.observed {
+    if bits(s.observed()) != c.observed {
         return false;
     }
-    let tally = s.tally;
-    tally.looks == c.looks as u64
+    s.looks() == c.looks as u64
 }
 
 // Do the looks at the case's list come to what the case says, and leave the records of b?
@@ -116,13 +112,7 @@ fn list_agrees(recs: &[u8; 2048], n: usize, c: Case, b: &[u8]) -> bool
     let mut line = own_lines();
     let mut off = none_off();
     let mut cache: [u8; 128] = [0; 128];
-    let start = expr_order_simplifier(
-        &mut cache,
-        Tally {
-            visits: 0,
-            looks: 0,
-        },
-    );
+    let start = expr_order_simplifier();
     let nodes = c.nodes;
     let s = simplify_projected_exprs(
         recs,

@@ -1,5 +1,6 @@
 // Runs the frozen cases of each folder of data/, and prints for each how many agree.
-// The scripts oracle/freeze_*.py make the data. The module of a folder's name has the comparison.
+// The scripts oracle/freeze_*.py make the data. Each folder has a module with its comparison, of the same name but for `read`:
+// `reading` is a crate.
 ghost use Rattle.cases.specs.Within.{Within};
 use crate::frame::Parts;
 use crate::frame::read_case;

@@ -1,4 +1,4 @@
--- The looks of a list fit in 64 bits, whichever records of a well-formed sheet its entries are.
+-- The looks of a list fit in 58 bits, whichever records of a well-formed sheet its entries are.
 use mathlib.Core.Path.{_≡_, refl}
 use mathlib.Core.Logic.{inl, inr}
 use Prim.Native.Nat.{ℕ, zero, suc, _+_, _*_, _≤_, _<_, _^_}
@@ -75,8 +75,8 @@ module _ (sh : Sheet) (wf : WellFormed sh) where
   few-below p h = size-within (length es) p (omega arith) h
 
   -- any list of at most eight records, before anything is changed
-  pub list-fits : (qs : List ℕ) (allow : Bool) (s : Eos) → s .expr-arena ≡ es → s .tally .looks < 2 ^ 63 → length es ≤ 128 → length qs ≤ 8
-      → ((q : ℕ) → List·Memᴰ q qs → q < length es) → simplify-projected-exprs qs allow s .1 .tally .looks < 2 ^ 64
+  pub list-fits : (qs : List ℕ) (allow : Bool) (s : Eos) → s .expr-arena ≡ es → s .tally .looks < 2 ^ 57 → length es ≤ 128 → length qs ≤ 8
+      → ((q : ℕ) → List·Memᴰ q qs → q < length es) → simplify-projected-exprs qs allow s .1 .tally .looks < 2 ^ 58
   list-fits qs allow s i start few short there =
       let all : sum (size es) qs ≤ length qs * length es = sum-at-most (size es) (length es) qs (λ q m. few-below q (there q m)) in
       let most : sum (size es) qs ≤ 1024 = omega (arith, all, mul-le-mul short few) in

@@ -28,7 +28,7 @@ pub record Visit-limits (n : ℕ) (r : Run) : Type 0 where
   pub before : Run-limits r
   pub exprs : length (looked-in n r .end .expr-arena) ≤ 128
   pub earlier : Children-earlier (looked-in n r .end .expr-arena)
-  pub looks : looked-in n r .end .tally .looks < 2 ^ 64
+  pub looks : looked-in n r .end .tally .looks < 2 ^ 58
 
 pub record Limits (s : List ℕ) (sh : Sheet) : Type 0 where
   pub places : length (graph (sh .steps) .0) ≤ 288

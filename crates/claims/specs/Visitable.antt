@@ -14,10 +14,10 @@ pub record Visitable (n : ℕ) (r : Run) : Type 0 where
   pub exprs : (q : ℕ) → List·Memᴰ q (step-at (r .steps) n .exprs) → q < length (r .arena)
   pub aggs : (q : ℕ) → List·Memᴰ q (step-at (r .steps) n .aggs) → q < length (r .arena)
   pub imploded : (q : ℕ) → List·Memᴰ q (looked-in n r .step .aggs) → q < length (looked-in n r .start .expr-arena)
-  -- the arena has room for the Implodes, and the tally for the looks
+  -- the arena has room for the Implodes, and the looks fit in the 58 bits that count them
   pub room : length (looked-in n r .start .expr-arena) ≤ 128
-  pub between : looked-in n r .between .tally .looks < 2 ^ 64
-  pub looks : looked-in n r .end .tally .looks < 2 ^ 64
+  pub between : looked-in n r .between .tally .looks < 2 ^ 58
+  pub looks : looked-in n r .end .tally .looks < 2 ^ 58
   -- every edge leads to a slot of a step
   pub consumers : (k : ℕ) → k < length (r .edges) → getD (r .edges) k no-edge .consumer < length (r .steps)
   pub slots : (k : ℕ) → k < length (r .edges)

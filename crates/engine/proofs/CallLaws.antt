@@ -15,7 +15,6 @@ use Rattle.storage.specs.Stored.{stored-steps}
 use Rattle.plan.specs.Text.{line, edge-line, exprs-block, steps-block, edges-block, tally-line, printed, blocks, joined, end-of}
 use Rattle.plan.specs.Visit.{Run}
 use Rattle.plan.specs.Walks.{down, up, simplify-and-fetch-orderings}
-use Rattle.storage.proofs.Laws.{length-steps}
 use Rattle.claims.specs.WellFormed.{Accepted, WellFormed}
 use Rattle.claims.specs.Demand1.{Demand-1, Finished-call, Refused-call}
 use Rattle.claims.specs.Demand3.{Finished-run}
@@ -92,7 +91,6 @@ module _ (es : List ℕ) (m : ℕ) (ps : List ℕ) (n : ℕ) (k : Plan-stored es
         edges-are = b .edges-are;
         few-places = b .few-places;
         few-edges = b .few-edges;
-        producers = λ i h. omega (arith, b .producer-there i h, length-steps ps n, k .steps-held .few);
         rows = b .in-rows;
       }
 

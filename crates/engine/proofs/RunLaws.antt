@@ -1,19 +1,16 @@
 -- Laws of the stages: what the walks ask of a graph as it is made, and what is written of the run that they leave.
 use mathlib.Core.Path.{_≡_, refl, sym, ap, ap₂, _∙_, subst}
-use Prim.Native.Nat.{ℕ, zero, suc, _<_}
+use Prim.Native.Nat.{ℕ}
 use native.Mathlib.Omega.{arith}
 use mathlib.Core.Bool.{Bool, false}
 use mathlib.Core.List.{List, [], _∷_, _++_}
-use mathlib.Core.Option.{some}
-use lib.ListN.{length, getD, drop, replicate, length-replicate}
-use borrow.Author.Tests.{ne-eqb}
+use lib.ListN.{length, drop, replicate, length-replicate}
 use Rattle.plan.specs.declared.answer.Answer.{Answer}
 use Rattle.plan.specs.declared.answer.Finished.{Finished}
 use Rattle.plan.specs.Lists.{concat-map}
 use Rattle.plan.specs.Finished.{called, finished-answer}
-use Rattle.plan.specs.Graph.{Edge}
 use Rattle.plan.specs.Sheet.{Sheet, done}
-use Rattle.storage.specs.Stored.{table, arena-of, stored-exprs, stored-steps}
+use Rattle.storage.specs.Stored.{arena-of, stored-exprs, stored-steps}
 use Rattle.storage.proofs.Laws.{same-table, length-steps}
 use Rattle.plan.specs.Text.{expr-line, step-line, edge-line, tally-line, exprs-block, steps-block, edges-block, printed, blocks, joined, end-of}
 use Rattle.plan.specs.Text as text
@@ -21,33 +18,29 @@ use Rattle.plan.specs.Visit.{Run}
 use Rattle.plan.specs.Walks.{simplify-and-fetch-orderings}
 use Rattle.claims.specs.WellFormed.{WellFormed}
 use Rattle.reading.specs.Held.{sheet}
-use Rattle.ir_graph.specs.Edges.{made, edges-of}
+use Rattle.ir_graph.specs.Edges.{made-edges}
 use Rattle.ir_graph.specs.declared.ir_graph.Graph.{Graph}
 use Rattle.plan.specs.declared.tally.Tally.{Tally}
 use Rattle.expr.specs.Start.{Own-lines, None-off}
 use Rattle.expr.proofs.Asked.{based-of-sheet}
 use Rattle.expr.proofs.Starts.{all-same, arena-at-start}
 use Rattle.simplify_ordering.specs.Arena.{Arena-held}
-use Rattle.node_rules.specs.Held.{producer-of, held-edge, held-edges}
+use Rattle.storage.specs.Edges.{stored-edge, stored-edges}
 use Rattle.simplify_ordering.specs.Run.{run-of}
 use Rattle.simplify_ordering.specs.Walks.{sheet-of, Fetch-asks, Orderings-are, Orderings-held}
 use Rattle.simplify_ordering.specs.declared.walks.Fetched.{Fetched}
 use Rattle.simplify_ordering.specs.declared.walks.Orderings.{Orderings}
-use Rattle.writing.specs.Blocks.{stored-edge, stored-edges, Sheet-wrote}
+use Rattle.writing.specs.Blocks.{Sheet-wrote}
 use Rattle.engine.specs.Call.{call, Plan-stored, Graph-made}
 use Rattle.engine.specs.Lines.{Run-wrote}
 
 -- Edges as they are made ---------------------------------------------------------------------------------------------------------
 
-is-producer : (p : ℕ) → p < 32 → producer-of p ≡ some p
-is-producer p h = rw (ne-eqb p 255 (λ e. omega (arith, e)))
-
-pub edges-as-made : (consumer slot producer : List ℕ) (n : ℕ) → ((k : ℕ) → k < n → getD producer k 0 < 32)
-    → held-edges consumer slot producer (replicate 256 false) n ≡ edges-of consumer slot producer n
-unfolding held-edges held-edge edges-of
-edges-as-made consumer slot producer n few =
-    same-table (held-edge consumer slot producer (replicate 256 false)) (λ j. made (getD consumer j 0) (getD slot j 0) (getD producer j 0)) n
-    (λ j h. rw (is-producer (getD producer j 0) (few j h), all-same 256 j false))
+-- whether the array of marks is there or not
+edges-as-made : (consumer slot producer : List ℕ) (n : ℕ) → stored-edges consumer slot producer (replicate 256 false) n ≡ made-edges consumer slot producer n
+unfolding stored-edges stored-edge
+edges-as-made consumer slot producer n =
+    same-table (stored-edge consumer slot producer (replicate 256 false)) (stored-edge consumer slot producer []) n (λ j h. rw (all-same 256 j false))
 
 -- What the walks ask -------------------------------------------------------------------------------------------------------------
 
@@ -82,24 +75,11 @@ module _ (es : List ℕ) (m : ℕ) (ps : List ℕ) (n : ℕ) (k : Plan-stored es
           formed = subst WellFormed (sym sheet-at-start) (k .formed);
           few = made .few-places;
           places-are = made .places-are;
-          edges-are = edges-as-made consumer slot producer (g .edges) (made .producers) ∙ made .edges-are;
+          edges-are = edges-as-made consumer slot producer (g .edges) ∙ made .edges-are;
           rows = λ i h. made .rows i (omega (arith, h, length-steps ps n));
         }
 
 -- What is written ----------------------------------------------------------------------------------------------------------------
-
-same-lines : (f g : ℕ → Edge) (k n : ℕ) → ((j : ℕ) → edge-line (f j) ≡ edge-line (g j))
-    → concat-map edge-line (table f k n) ≡ concat-map edge-line (table g k n)
-unfolding table concat-map
-same-lines f g k zero h = refl
-same-lines f g k (suc n) h = ap₂ (λ (x y : List ℕ). x ++ y) (h k) (same-lines f g (suc k) n h)
-
--- a G line has no producer
-pub edges-printed : (consumer slot producer : List ℕ) (unordered : List Bool) (n : ℕ)
-    → concat-map edge-line (stored-edges consumer slot unordered n) ≡ concat-map edge-line (held-edges consumer slot producer unordered n)
-unfolding stored-edges stored-edge held-edges held-edge edge-line
-edges-printed consumer slot producer unordered n =
-    same-lines (stored-edge consumer slot unordered) (held-edge consumer slot producer unordered) 0 n (λ j. refl)
 
 finished-is : (r : Finished) {a b c d e v l : ℕ} → r .exprs ≡ a → r .steps ≡ b → r .edges ≡ c → r .length ≡ d → r .removed ≡ e → r .visits ≡ v
     → r .looks ≡ l → r ≡ record { exprs = a; steps = b; edges = c; length = d; removed = e; visits = v; looks = l }
@@ -124,7 +104,7 @@ module _ (recs line : List ℕ) (off : List Bool) (m : ℕ) (steps : List ℕ) (
   run producer back gone = run-of recs line off m steps n consumer slot producer unordered edges back gone tally
 
   pub run-wrote : stored-exprs xs m ≡ arena-of recs line off m
-      → Sheet-wrote (concat-map expr-line (stored-exprs xs m)) (concat-map step-line (stored-steps steps n)) (concat-map edge-line (stored-edges consumer slot unordered edges)) (text.line 84 (removed ∷ tally .visits ∷ tally .looks ∷ [])) entry exit f
+      → ((producer : List ℕ) → Sheet-wrote (concat-map expr-line (stored-exprs xs m)) (concat-map step-line (stored-steps steps n)) (concat-map edge-line (stored-edges consumer slot producer unordered edges)) (text.line 84 (removed ∷ tally .visits ∷ tally .looks ∷ [])) entry exit f)
       → (f .removed ≡ removed) × (f .visits ≡ tally .visits) × (f .looks ≡ tally .looks)
       → Run-wrote run removed entry exit f
   unfolding exprs-block steps-block edges-block tally-line
@@ -132,13 +112,11 @@ module _ (recs line : List ℕ) (off : List Bool) (m : ℕ) (steps : List ℕ) (
       record {
         answer =
             λ producer back gone same.
-            answer-is (run producer back gone) _ _ _ _ entry exit f w (ap (concat-map expr-line) e) refl
-            (edges-printed consumer slot producer unordered edges) (ap (λ (k : ℕ). text.line 84 (k ∷ tally .visits ∷ tally .looks ∷ [])) same)
+            answer-is (run producer back gone) _ _ _ _ entry exit f (w producer) (ap (concat-map expr-line) e) refl refl (ap (λ (k : ℕ). text.line 84 (k ∷ tally .visits ∷ tally .looks ∷ [])) same)
             (x ∙ same) y z;
         bytes =
             λ producer back gone same.
-            bytes-are (run producer back gone) _ _ _ _ entry exit f w (ap (concat-map expr-line) e) refl
-            (edges-printed consumer slot producer unordered edges) (ap (λ (k : ℕ). text.line 84 (k ∷ tally .visits ∷ tally .looks ∷ [])) same);
+            bytes-are (run producer back gone) _ _ _ _ entry exit f (w producer) (ap (concat-map expr-line) e) refl refl (ap (λ (k : ℕ). text.line 84 (k ∷ tally .visits ∷ tally .looks ∷ [])) same);
       }
 
 -- What the walks' outcome makes of the call --------------------------------------------------------------------------------------

@@ -1,8 +1,8 @@
 -- What the stages of the call hand on, and what a call leaves.
 use mathlib.Core.Path.{_≡_}
-use Prim.Native.Nat.{ℕ, _≤_, _<_}
+use Prim.Native.Nat.{ℕ, _≤_}
 use mathlib.Core.List.{List}
-use lib.ListN.{length, getD, take}
+use lib.ListN.{length, take}
 use Rattle.plan.specs.declared.answer.Answer.{Answer}
 use Rattle.plan.specs.Finished.{Called}
 use Rattle.plan.specs.Graph.{graph}
@@ -11,7 +11,7 @@ use Rattle.storage.specs.Edges.{In-rows}
 use Rattle.storage.specs.Stored.{Steps-held}
 use Rattle.claims.specs.WellFormed.{WellFormed}
 use Rattle.reading.specs.Held.{sheet, Exprs-held}
-use Rattle.ir_graph.specs.Edges.{edges-of}
+use Rattle.ir_graph.specs.Edges.{made-edges}
 use Rattle.ir_graph.specs.declared.ir_graph.Graph.{Graph}
 
 -- the answer, and the bytes of the output at exit
@@ -27,8 +27,7 @@ pub record Plan-stored (es : List ℕ) (m : ℕ) (ps : List ℕ) (n : ℕ) : Typ
 -- the arrays hold the visiting list and the edges of the steps ps
 pub record Graph-made (ps : List Step) (places consumer slot producer in-edges : List ℕ) (g : Graph) : Type 0 where
   pub places-are : take (g .places) places ≡ graph ps .0
-  pub edges-are : edges-of consumer slot producer (g .edges) ≡ graph ps .1
+  pub edges-are : made-edges consumer slot producer (g .edges) ≡ graph ps .1
   pub few-places : g .places ≤ 288
   pub few-edges : g .edges ≤ 256
-  pub producers : (k : ℕ) → k < g .edges → getD producer k 0 < 32
   pub rows : In-rows consumer in-edges (g .edges) (length ps)

@@ -1,9 +1,9 @@
--- One child more of a look along the children; its end; a record without children; and what a record reads of the answers.
+-- One child more of a look along the children; its end; a record without children; what a record reads of the answers; and a leaf.
 use mathlib.Core.Path.{_≡_, refl, _∙_}
 use Prim.Native.Nat.{ℕ, zero, suc, _+_, _<_, _≤_}
 use native.Mathlib.Omega.{arith}
 use native.Mathlib.Nat.{not-suc-le-zero}
-use mathlib.Core.Bool.{Bool, true, false, _&&_}
+use mathlib.Core.Bool.{Bool, true, false, _&&_, _||_}
 use mathlib.Core.List.{List, [], _∷_, _++_}
 use lib.Dec.{eqb}
 use lib.ListN.{length, getD, drop, length-append, drop-of-length-le, List·getD-append}
@@ -13,15 +13,15 @@ use Rattle.plan.specs.declared.aexpr.AExpr.{AExpr}
 use Rattle.plan.specs.declared.looks.Before.{Before}
 use Rattle.plan.specs.declared.orders.ExprOrderAcc.{ExprOrderAcc}
 use Rattle.plan.specs.declared.orders.ObservableOrders.{ObservableOrders}
-use Rattle.plan.specs.Kinds.{same-aexpr}
+use Rattle.plan.specs.Kinds.{aexpr, same-aexpr}
 use Rattle.plan.specs.Lists.{if_then_else_, first-last}
 use Rattle.plan.specs.Sheet.{Expr}
-use Rattle.plan.specs.Orders.{no-orders, add}
-use Rattle.plan.specs.Look.{NO-DEORDER, Eos, with-field, in-order, After, after, enter-struct, Look, look-along, look-along-children, look-ended}
+use Rattle.plan.specs.Orders.{∅, COLUMN, INDEPENDENT, _∪_, no-orders, add}
+use Rattle.plan.specs.Look.{NO-DEORDER, Eos, with-field, before, in-order, after, plain, enter-struct, Look, look-along, look-along-children, look-ended}
 use Rattle.expr.specs.declared.seen.Seen.{Seen}
 use Rattle.expr.specs.declared.record.ExprRecord.{ExprRecord}
 use Rattle.expr.specs.Seen.{Sees}
-use Rattle.expr.specs.Tables.{answers}
+use Rattle.expr.specs.Tables.{answers, Leaf}
 use Rattle.expr.specs.Record.{record-of, Shaped, slot, child-at}
 use Rattle.expr.specs.Contract.{along-from}
 use Rattle.expr.proofs.Records.{children-length, children-at}
@@ -38,6 +38,13 @@ length-in-order b cs = go (b .turned)
     go : (t : Bool) → length (if t then first-last cs else cs) ≡ length cs
     go true = length-first-last cs
     go false = refl
+
+pub none-in-order : (b : Before) (cs : List ℕ) → cs ≡ [] → in-order b cs ≡ []
+none-in-order b cs h = go (b .turned)
+  where
+    go : (t : Bool) → (if t then first-last cs else cs) ≡ []
+    go true = rw h
+    go false = h
 
 turned-at : (cs : List ℕ) (i : ℕ) → i < length cs → (t : Bool) → eqb (i + 1) (length cs) ≡ t → getD (first-last cs) i 0 ≡ getD cs (if t then 0 else i + 1) 0
 turned-at [] i h t q = absurd (not-suc-le-zero h)
@@ -80,80 +87,44 @@ module _ (rec : Look) (e : Expr) (b : Before) where
   abbrev pub entered : ℕ → ObservableOrders → Eos → Eos
   entered i o s = with-field (if eqb i 0 && same-aexpr (e .kind) AExpr.StructEval then o else s .struct-field-ordering) s
 
-  along-one : (q : ℕ) (qs : List ℕ) (s : Eos) → queue ≡ q ∷ qs
-      → look-along-children rec e b s
-      ≡ along-from rec e b 1 (rec (b .first) q s .0 ∷ []) (add no-orders (rec (b .first) q s .0) q) (entered 0 (rec (b .first) q s .0) (rec (b .first) q s .1))
-  unfolding look-along-children look-along
-  along-one q qs s h = rw h
+  pub children-from : (s : Eos) → look-along-children rec e b s ≡ along-from rec e b 0 [] no-orders s
+  unfolding look-along-children
+  children-from s = refl
+
+  along-one : (q : ℕ) (qs : List ℕ) (x : ExprOrderAcc) (s : Eos) → queue ≡ q ∷ qs
+      → along-from rec e b 0 [] x s
+      ≡ along-from rec e b 1 (rec (b .first) q s .0 ∷ []) (add x (rec (b .first) q s .0) q) (entered 0 (rec (b .first) q s .0) (rec (b .first) q s .1))
+  unfolding look-along
+  along-one q qs x s h = rw h
 
   along-two : (m : Bool) (q : ℕ) (qs rest : List ℕ) (os : List ObservableOrders) (x : ExprOrderAcc) (s : Eos) → rest ≡ q ∷ qs
       → look-along rec m rest os x s ≡ look-along rec m qs (os ++ (rec m q s .0 ∷ [])) (add x (rec m q s .0) q) (rec m q s .1)
   unfolding look-along
   along-two m q qs rest os x s h = rw h
 
-  pub along-more : (i : ℕ) → i < length queue → (os : List ObservableOrders) (x : ExprOrderAcc) (s : Eos) → length os ≡ i → (i ≡ 0 → x ≡ no-orders)
+  pub along-more : (i : ℕ) → i < length queue → (os : List ObservableOrders) (x : ExprOrderAcc) (s : Eos) → length os ≡ i
       → along-from rec e b i os x s
       ≡ along-from rec e b (i + 1) (os ++ (rec (how i) (getD queue i 0) s .0 ∷ [])) (add x (rec (how i) (getD queue i 0) s .0) (getD queue i 0)) (entered i (rec (how i) (getD queue i 0) s .0) (rec (how i) (getD queue i 0) s .1))
-  along-more zero h [] x s k z = rw (z refl) (along-one (getD queue 0 0) (drop 1 queue) s (drop-cons queue 0 0 h))
-  along-more zero h (o ∷ os) x s k z = absurd (omega arith)
-  along-more (suc i) h os x s k z =
+  along-more zero h [] x s k = along-one (getD queue 0 0) (drop 1 queue) x s (drop-cons queue 0 0 h)
+  along-more zero h (o ∷ os) x s k = absurd (omega arith)
+  along-more (suc i) h os x s k =
       let n : eqb (suc i) 0 ≡ false = ne-eqb (suc i) 0 (λ j. omega arith) in
       let j : suc i + 1 ≡ suc (suc i) = omega arith in
       rw (n, j) (along-two NO-DEORDER (getD queue (suc i) 0) (drop (suc (suc i)) queue) (drop (suc i) queue) os x s (drop-cons queue (suc i) 0 h))
 
-  pub along-end : (i : ℕ) → length queue ≤ i + 1 → (os : List ObservableOrders) (x : ExprOrderAcc) (s : Eos) → along-from rec e b (i + 1) os x s ≡ (os, x, s)
+  -- after the last child
+  pub along-end : (i : ℕ) → length queue ≤ suc i → (os : List ObservableOrders) (x : ExprOrderAcc) (s : Eos) → along-from rec e b (suc i) os x s ≡ (os, x, s)
   unfolding look-along
-  along-end i h os x s =
-      let j : i + 1 ≡ suc i = omega arith in
-      let k : length queue ≤ suc i = omega arith in
-      rw (j, drop-of-length-le queue {i = suc i} k)
+  along-end i h os x s = rw (drop-of-length-le queue {i = suc i} h)
 
   -- no children
-  nothing : e .children ≡ [] → (t : Bool) → (if t then first-last (e .children) else e .children) ≡ []
-  nothing h true = rw h
-  nothing h false = h
-
-  pub along-none : (s : Eos) → e .children ≡ [] → look-along-children rec e b s ≡ ([], no-orders, enter-struct e [] s)
-  unfolding look-along-children look-along
-  along-none s h = rw (nothing h (b .turned))
+  pub along-none : (os : List ObservableOrders) (x : ExprOrderAcc) (s : Eos) → queue ≡ [] → along-from rec e b 0 os x s ≡ (os, x, enter-struct e os s)
+  unfolding look-along
+  along-none os x s h = rw h
 
 -- What a record reads of the answers ---------------------------------------------------------------------------------------------
 
--- its end restores the struct's field
-pub ended-entered : (p : ℕ) (e : Expr) (v : After) (o field x : ObservableOrders) (os : List ObservableOrders) (s : Eos) → look-ended p e v o field os (with-field x s) ≡ look-ended p e v o field os s
-unfolding look-ended
-ended-entered p e v o field x os s = refl
-
--- without children, none is looked at again
 module _ (e : Expr) (allow : Bool) (field : ObservableOrders) where
-  pub after-none : (k : AExpr) → after e allow field [] no-orders k .again ≡ false
-  unfolding after
-  after-none AExpr.Column = refl
-  after-none AExpr.Literal = refl
-  after-none AExpr.Element = refl
-  after-none AExpr.StructField = refl
-  after-none AExpr.Len = refl
-  after-none AExpr.BinaryExpr = refl
-  after-none AExpr.Ternary = refl
-  after-none AExpr.Cast = refl
-  after-none AExpr.Explode = refl
-  after-none AExpr.Sort = refl
-  after-none AExpr.SortBy = refl
-  after-none AExpr.Filter = refl
-  after-none AExpr.Gather = refl
-  after-none AExpr.Slice = refl
-  after-none AExpr.Eval = refl
-  after-none AExpr.StructEval = refl
-  after-none AExpr.Over = refl
-  after-none AExpr.Rolling = refl
-  after-none AExpr.MinBy = refl
-  after-none AExpr.Function = refl
-  after-none AExpr.AnonymousAgg = refl
-  after-none AExpr.First = refl
-  after-none AExpr.Min = refl
-  after-none AExpr.Implode = refl
-  after-none AExpr.AggGroups = refl
-
   -- only the first three answers are read
   module _ (os : List ObservableOrders) (x : Seen) (y : ExprOrderAcc) (h : Sees os x) where
     pub after-seen : (k : AExpr) → after e allow field os y k ≡ after e allow field (answers x) y k
@@ -183,3 +154,55 @@ module _ (e : Expr) (allow : Bool) (field : ObservableOrders) where
     after-seen AExpr.Min = refl
     after-seen AExpr.Implode = rw (h .first)
     after-seen AExpr.AggGroups = rw (h .first)
+
+-- A leaf -------------------------------------------------------------------------------------------------------------------------
+
+-- what the definition does with a kind beside the answer
+pub record Leaf-kind (e : Expr) (allow : Bool) (k : AExpr) : Type 0 where
+  pub checks : before e allow k .checks ≡ false
+  pub sort : same-aexpr k AExpr.Sort ≡ false
+  pub sort-by : same-aexpr k AExpr.SortBy ≡ false
+  pub implode : same-aexpr k AExpr.Implode ≡ false
+
+pub leaf-kind : (e : Expr) (allow : Bool) (k : ℕ) → k < 5 → Leaf-kind e allow (aexpr k)
+unfolding before
+leaf-kind e allow zero h = record { checks = refl; sort = refl; sort-by = refl; implode = refl }
+leaf-kind e allow (suc zero) h = record { checks = refl; sort = refl; sort-by = refl; implode = refl }
+leaf-kind e allow (suc (suc zero)) h = record { checks = refl; sort = refl; sort-by = refl; implode = refl }
+leaf-kind e allow (suc (suc (suc zero))) h = record { checks = refl; sort = refl; sort-by = refl; implode = refl }
+leaf-kind e allow (suc (suc (suc (suc zero)))) h = record { checks = refl; sort = refl; sort-by = refl; implode = refl }
+leaf-kind e allow (suc (suc (suc (suc (suc k))))) h = absurd (omega arith)
+
+module _ (scalar : Bool) (field : ObservableOrders) where
+  pub leaf-column : Leaf 0 scalar field COLUMN
+  unfolding after
+  leaf-column = record { is = λ e allow h. refl }
+
+  pub leaf-literal : Leaf 1 scalar field (if scalar then ∅ else INDEPENDENT)
+  unfolding after
+  leaf-literal = record { is = λ e allow h. rw h }
+
+  pub leaf-element : Leaf 2 scalar field INDEPENDENT
+  unfolding after
+  leaf-element = record { is = λ e allow h. refl }
+
+  pub leaf-struct-field : Leaf 3 scalar field field
+  unfolding after
+  leaf-struct-field = record { is = λ e allow h. refl }
+
+  pub leaf-len : Leaf 4 scalar field ∅
+  unfolding after
+  leaf-len = record { is = λ e allow h. refl }
+
+or-false : (a : Bool) → (a || false) ≡ a
+or-false true = refl
+or-false false = refl
+
+nothing-more : (o : ObservableOrders) → o ∪ ∅ ≡ o
+nothing-more o = rw (or-false (o .column), or-false (o .independent))
+
+-- its end changes nothing
+pub leaf-ended : (p : ℕ) (e : Expr) (o : ObservableOrders) (s : Eos) → same-aexpr (e .kind) AExpr.Implode ≡ false
+    → look-ended p e (plain o) o (s .struct-field-ordering) [] (enter-struct e [] s) ≡ s
+unfolding look-ended
+leaf-ended p e o s h = rw (h, nothing-more (s .internally-observed))

@@ -1,6 +1,6 @@
 -- What a list of expressions asks, of records that were read from a well-formed sheet or are formed like such.
 use mathlib.Core.Path.{_≡_, sym, _∙_, subst}
-use Prim.Native.Nat.{ℕ, _*_, _≤_, _<_, _^_}
+use Prim.Native.Nat.{ℕ, _*_, _≤_, _<_}
 use native.Mathlib.Omega.{arith}
 use mathlib.Core.Bool.{Bool}
 use mathlib.Core.List.{List, List·Memᴰ}
@@ -17,8 +17,9 @@ use Rattle.claims.proofs.Changes as claims
 use Rattle.claims.proofs.Once.{formed-at-start}
 use Rattle.claims.proofs.ListFits.{list-fits}
 use Rattle.plan.specs.declared.tally.Tally.{Tally}
-use Rattle.expr.specs.State.{State, eos-of, Falls, Based}
-use Rattle.expr.specs.Projected.{Started, ListAsks}
+use Rattle.expr.specs.declared.eos.Eos.{Eos}
+use Rattle.expr.specs.State.{State, state, eos-of, Falls, Based}
+use Rattle.expr.specs.Projected.{no-entries, Started, ListAsks}
 use Rattle.expr.specs.Start.{Own-lines, None-off}
 use Rattle.expr.specs.Read.{Read-exprs}
 use Rattle.expr.proofs.Starts.{arena-at-start}
@@ -48,26 +49,31 @@ module _ (recs : List ℕ) (n : ℕ) (few : n ≤ 128) (room : n * 16 ≤ length
 
 -- A list before anything is changed ----------------------------------------------------------------------------------------------
 
-module _ (recs : List ℕ) (n : ℕ) (k : Read-exprs recs n) (room : n * 16 ≤ length recs) (line : List ℕ) (off : List Bool) (tally : Tally) (s : State) (own : Own-lines line) (on : None-off off) (started : Started line off tally s) (start : tally .looks < 2 ^ 63) where
+module _ (recs : List ℕ) (n : ℕ) (k : Read-exprs recs n) (room : n * 16 ≤ length recs) (line : List ℕ) (off : List Bool) (own : Own-lines line) (on : None-off off) (s : Eos) (started : Started s) where
   size : length (k .sheet .exprs) ≡ n
   size = subst (λ es. length es ≡ n) (k .same) (length-exprs recs n)
 
-  arena : eos-of recs n s .expr-arena ≡ k .sheet .exprs
-  arena = rw (started .is recs n) (arena-at-start recs n (k .few) line off own on ∙ k .same)
+  abbrev start : State
+  start = state line off no-entries s
+
+  arena : (tally : Tally) → eos-of tally recs n start .expr-arena ≡ k .sheet .exprs
+  arena tally = rw (started .is tally recs n line off) (arena-at-start recs n (k .few) line off own on ∙ k .same)
 
   -- of any records, at most eight
   pub asks-at-start : (nodes : List ℕ) (count : ℕ) (allow : Bool) → count ≤ 8 → length nodes ≡ 8 → Falls n (take count nodes)
-      → ListAsks recs n s nodes count allow
+      → ListAsks recs n start nodes count allow
   asks-at-start nodes count allow short eight falls =
+      let none : Tally = record { visits = 0; looks = 0 } in
       let there : (q : ℕ) → List·Memᴰ q (take count nodes) → q < length (k .sheet .exprs) =
       λ q m. let (i, h, j) = place-of (take count nodes) 0 q m in rw size (subst (λ c. c < n) j (falls .child i h)) in
       record {
         based = based-of-sheet recs n (k .few) room (k .each) (k .sheet) (k .well-formed) (k .same);
-        formed = starts.formed-at-start recs n (k .few) line off own on tally s started;
+        formed = starts.formed-at-start recs n (k .few) line off own on s;
         few = short;
         room = eight;
         falls = falls;
+        tally = none;
         fits =
-            list-fits (k .sheet) (k .well-formed) (take count nodes) allow (eos-of recs n s) arena
-            (rw (started .is recs n) start) (rw size (k .few)) (simp length-take (omega (arith, short, eight))) there;
+            list-fits (k .sheet) (k .well-formed) (take count nodes) allow (eos-of none recs n start) (arena none)
+            (rw (started .is none recs n line off) (omega arith)) (rw size (k .few)) (simp length-take (omega (arith, short, eight))) there;
       }

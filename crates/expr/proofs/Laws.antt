@@ -10,37 +10,24 @@ use lib.ListN.{take, drop}
 use Rattle.plan.specs.declared.looks.Before.{Before}
 use Rattle.plan.specs.declared.orders.ExprOrderAcc.{ExprOrderAcc}
 use Rattle.plan.specs.declared.orders.ObservableOrders.{ObservableOrders}
-use Rattle.plan.specs.Lists.{if_then_else_}
 use Rattle.plan.specs.Sheet.{Expr, expr-at}
 use Rattle.plan.specs.Orders.{no-orders, add}
 use Rattle.plan.specs.Look.{NO-DEORDER, Eos, one-look, before, in-order, check-return-cached, is-replaced, replace-by-input, After, after, enter-struct, Look, look-along, look-again, look-along-children, look-ended, look-whole, look-at, look}
-use Rattle.expr.specs.Contract.{Answers, along-from}
+use Rattle.expr.specs.Contract.{Answers, along-from, answer-by, ended-by}
 
 -- The end of a look, from what its children answered -----------------------------------------------------------------------------
 
 abbrev pub finish : Look → ℕ → Expr → ObservableOrders → Answers → After → ObservableOrders × Eos
-finish rec p e field d v =
-    let r = look-again rec (v .again) (d .1) (d .2) in
-    let o = if v .again then v .answer-again (r .0) else v .answer in
-    (o, look-ended p e v o field (d .0) (r .1))
-
--- from the second look's answer and state
-abbrev pub ended-by : ObservableOrders × Eos → ℕ → Expr → After → ObservableOrders → List ObservableOrders → ObservableOrders × Eos
-ended-by r p e v field os = (v .answer-again (r .0), look-ended p e v (v .answer-again (r .0)) field os (r .1))
+finish rec p e field d v = ended-by p e v field (d .0) (answer-by v (look-again rec (v .again) (d .1) (d .2)))
 
 abbrev pub after-answers : Bool → Expr → ObservableOrders → Answers → After
 after-answers allow e field d = after e allow field (d .0) (d .1) (e .kind)
 
-module _ (rec : Look) (p : ℕ) (e : Expr) (field : ObservableOrders) (d : Answers) (v : After) where
-  pub finish-again : v .again ≡ true
-      → finish rec p e field d v ≡ ended-by (rec true (d .1 .«last_ordered_node») (d .2)) p e v field (d .0)
-  unfolding look-again
-  finish-again h = rw h
-
-  pub finish-done : v .again ≡ false
-      → finish rec p e field d v ≡ (v .answer, look-ended p e v (v .answer) field (d .0) (d .2))
-  unfolding look-again
-  finish-done h = rw h
+-- without a second look
+pub finish-done : (rec : Look) (p : ℕ) (e : Expr) (field : ObservableOrders) (d : Answers) (v : After) → v .again ≡ false
+    → finish rec p e field d v ≡ ended-by p e v field (d .0) (v .answer, d .2)
+unfolding look-again
+finish-done rec p e field d v h = rw h
 
 -- Each way through a look --------------------------------------------------------------------------------------------------------
 
@@ -69,17 +56,17 @@ module _ (rec : Look) (up : (m : Bool) (q : ℕ) (s : Eos) → s .tally .looks �
   up-along m [] os x s = le-refl _
   up-along m (q ∷ qs) os x s = le-trans (up m q s) (up-along m qs (os ++ (rec m q s .0 ∷ [])) (add x (rec m q s .0) q) (rec m q s .1))
 
+  pub up-from : (e : Expr) (b : Before) (i : ℕ) (os : List ObservableOrders) (x : ExprOrderAcc) (s : Eos) → s .tally .looks ≤ along-from rec e b i os x s .2 .tally .looks
+  up-from e b zero os x s =
+      let qs = in-order b (e .children) in
+      let d = look-along rec (b .first) (take 1 qs) os x s in
+      le-trans (up-along (b .first) (take 1 qs) os x s)
+      (up-along NO-DEORDER (drop 1 qs) (d .0) (d .1) (enter-struct e (d .0) (d .2)))
+  up-from e b (suc i) os x s = up-along NO-DEORDER (drop (suc i) (in-order b (e .children))) os x s
+
   up-children : (e : Expr) (b : Before) (s : Eos) → s .tally .looks ≤ look-along-children rec e b s .2 .tally .looks
   unfolding look-along-children
-  up-children e b s =
-      let qs = in-order b (e .children) in
-      let d = look-along rec (b .first) (take 1 qs) [] no-orders s in
-      le-trans (up-along (b .first) (take 1 qs) [] no-orders s)
-      (up-along NO-DEORDER (drop 1 qs) (d .0) (d .1) (enter-struct e (d .0) (d .2)))
-
-  pub up-from : (e : Expr) (b : Before) (i : ℕ) (os : List ObservableOrders) (x : ExprOrderAcc) (s : Eos) → s .tally .looks ≤ along-from rec e b i os x s .2 .tally .looks
-  up-from e b zero os x s = up-children e b s
-  up-from e b (suc i) os x s = up-along NO-DEORDER (drop (suc i) (in-order b (e .children))) os x s
+  up-children e b s = up-from e b 0 [] no-orders s
 
   up-again : (b : Bool) (x : ExprOrderAcc) (s : Eos) → s .tally .looks ≤ look-again rec b x s .1 .tally .looks
   unfolding look-again

@@ -1,3 +1,4 @@
+pub mod Bits
 pub mod Answers
 pub mod Records
 pub mod View

@@ -1,6 +1,6 @@
 -- Laws of stored records: an ExprRecord out of the bytes, and its children in the order of the looks.
 use mathlib.Core.Path.{_≡_, refl, sym, _∙_}
-use Prim.Native.Nat.{ℕ, suc, _+_, _*_, _≤_, _<_}
+use Prim.Native.Nat.{ℕ, zero, suc, _+_, _*_, _≤_, _<_}
 use native.Mathlib.Omega.{arith}
 use mathlib.Core.Bool.{Bool, true, false, _&&_, _||_}
 use mathlib.Core.List.{List, [], _∷_, _++_}
@@ -14,7 +14,7 @@ use Rattle.plan.specs.Sheet.{Expr, expr-of}
 use Rattle.storage.specs.Stored.{stored-expr, Expr-formed}
 use Rattle.expr.specs.declared.record.ExprRecord.{ExprRecord}
 use Rattle.expr.specs.Record.{record-of, Shaped, held, IsHeld}
-use Rattle.expr.specs.State.{Readable, preserves, is-replaced-line}
+use Rattle.expr.specs.State.{Falls, above, Readable, preserves, is-replaced-line}
 
 -- Out of the bytes ---------------------------------------------------------------------------------------------------------------
 
@@ -68,6 +68,17 @@ module _ (b : List ℕ) (l : ℕ) (room : l * 16 + 16 ≤ length b) (formed : Ex
   is-held false k o p q = record { is = rw (stored, p, q); shaped = record { few = formed .count; room = refl } }
 
 -- Its children -------------------------------------------------------------------------------------------------------------------
+
+pub above-each : (cs : List ℕ) (k : ℕ) → k < length cs → getD cs k 0 < above cs
+unfolding above
+above-each [] k h = absurd (omega arith)
+above-each (c ∷ cs) zero h = omega arith
+above-each (c ∷ cs) (suc k) h = omega (arith, above-each cs k (omega arith))
+
+pub above-least : (cs : List ℕ) (m : ℕ) → Falls m cs → above cs ≤ m
+unfolding above
+above-least [] m f = omega arith
+above-least (c ∷ cs) m f = omega (arith, f .child 0 (omega arith), above-least cs m (record { child = λ k h. f .child (suc k) (omega arith) }))
 
 module _ (e : ExprRecord) (shaped : Shaped e) where
   pub children-length : length (record-of e .children) ≡ e .count

@@ -9,9 +9,9 @@ use lib.ListN.{length, getD, set, replicate, length-replicate, length-set}
 use lib.Seq.{getD-set-same, getD-set-other}
 use Rattle.storage.specs.Stored.{stored-exprs, stored-expr, held-expr, arena-of}
 use Rattle.storage.proofs.Laws.{same-table}
-use Rattle.plan.specs.declared.tally.Tally.{Tally}
-use Rattle.expr.specs.State.{State, Formed}
-use Rattle.expr.specs.Projected.{Started}
+use Rattle.expr.specs.declared.eos.Eos.{Eos}
+use Rattle.expr.specs.State.{state, Formed}
+use Rattle.expr.specs.Projected.{no-entries}
 use Rattle.expr.specs.Start.{Own-lines, None-off}
 
 pub all-same : {A : Type 0} (m q : ℕ) (a : A) → getD (replicate m a) q a ≡ a
@@ -45,9 +45,9 @@ module _ (recs : List ℕ) (n : ℕ) (few : n ≤ 128) (line : List ℕ) (off : 
   unfolding arena-of stored-exprs held-expr
   arena-at-start = same-table (held-expr recs line off) (stored-expr recs) n (λ q h. rw (own .own q (omega (arith, few)), on .on q))
 
-  pub formed-at-start : (tally : Tally) (s : State) → Started line off tally s → Formed n s
-  formed-at-start tally s k =
+  pub formed-at-start : (s : Eos) → Formed n (state line off no-entries s)
+  formed-at-start s =
       record {
-        sized = record { line = rw (k .line-is) (own .size); off = rw (k .off-is) (on .size); cache = k .cache-size };
-        below = λ q h. rw (k .line-is, own .own q (omega (arith, few))) (omega arith);
+        sized = record { line = own .size; off = on .size; cache = length-replicate {A = ℕ} 128 0 };
+        below = λ q h. rw (own .own q (omega (arith, few))) (omega arith);
       }

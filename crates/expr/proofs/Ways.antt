@@ -1,38 +1,38 @@
 -- What the code's look asks and gives, a law for each way through it.
-use mathlib.Core.Path.{_≡_, refl, sym, ap, _∙_}
+use mathlib.Core.Path.{_≡_, refl, sym, ap, _∙_, subst}
 use Prim.Native.Nat.{ℕ, zero, suc, _+_, _*_, _<_, _≤_, _^_}
-use native.Mathlib.Nat.{le-refl, le-of-lt, lt-of-le-of-lt, lt-of-lt-of-le}
+use native.Mathlib.Nat.{le-of-lt, lt-of-le-of-lt, lt-of-lt-of-le}
 use native.Mathlib.Omega.{arith}
 use mathlib.Core.Bool.{Bool, true, false, _&&_, _||_, not}
 use mathlib.Core.List.{List, [], _∷_}
 use mathlib.Core.Option.{Option, none, some}
-use lib.Dec.{eqb}
+use lib.Dec.{eqb, ltb}
 use lib.ListN.{length, getD}
 use lib.Seq.{getD-set-same}
-use borrow.Author.Tests.{eqb-true}
+use borrow.Author.Tests.{eqb-true, ltb-true}
 use Rattle.plan.specs.declared.aexpr.AExpr.{AExpr}
 use Rattle.plan.specs.declared.looks.Before.{Before}
 use Rattle.plan.specs.declared.orders.ExprOrderAcc.{ExprOrderAcc}
 use Rattle.plan.specs.declared.orders.ObservableOrders.{ObservableOrders}
-use Rattle.plan.specs.Kinds.{same-aexpr}
+use Rattle.plan.specs.declared.tally.Tally.{Tally}
+use Rattle.plan.specs.Kinds.{aexpr, same-aexpr}
 use Rattle.plan.specs.Lists.{if_then_else_, all?}
 use Rattle.plan.specs.Sheet.{Expr, expr-at}
-use Rattle.plan.specs.Orders.{∅, no-orders, single}
-use Rattle.plan.specs.Look.{one-look, before, check-return-cached, is-replaced, replace-by-input, after, enter-struct, look-ended, look}
+use Rattle.plan.specs.Orders.{no-orders, single}
+use Rattle.plan.specs.Look.{one-look, before, in-order, check-return-cached, is-replaced, replace-by-input, after, enter-struct, look-again, look-along-children, look-ended, look}
 use Rattle.plan.specs.Look as plan
 use Rattle.storage.specs.Stored.{stored-expr, Expr-formed}
 use Rattle.expr.specs.declared.after.After.{After}
 use Rattle.expr.specs.declared.record.ExprRecord.{ExprRecord}
-use Rattle.expr.specs.Seen.{none-seen}
 use Rattle.expr.specs.Cache.{unpacked, cache-of}
 use Rattle.expr.specs.Record.{record-of, held, IsHeld}
 use Rattle.expr.specs.State.{State, eos-of, Falls, Based, Formed, Kept, Readable, sorts, preserves, is-replaced-line}
-use Rattle.expr.specs.Tables.{after-of, answers}
-use Rattle.expr.specs.Contract.{Walked, looked-of, LookAsks, LookGives, Ended, Answers, along-from, Begun, AlongAsks, IsWalk, AlongGives}
-use Rattle.expr.proofs.Records.{no, stored}
-use Rattle.expr.proofs.States.{kept-trans, formed-kept, counted, answering, copied, kept-counted, kept-answering, kept-copied, eos-cache, eos-field, eos-looks, eos-counted, eos-answering, eos-at, eos-copied}
-use Rattle.expr.proofs.Laws.{finish, ended-by, after-answers, finish-again, finish-done, look-hit, look-copied, look-rest, up-finish, up-look, up-count}
-use Rattle.expr.proofs.Along.{along-none, ended-entered, after-none, after-seen}
+use Rattle.expr.specs.Tables.{output-of, after-of, answers, Leaf}
+use Rattle.expr.specs.Contract.{Walked, looked-of, LookAsks, LookGives, answer-by, AgainAsks, AgainGives, ended-by, Ended, Answers, reach, AlongAsks, IsWalk, AlongGives}
+use Rattle.expr.proofs.Records.{no, stored, above-least}
+use Rattle.expr.proofs.States.{kept-trans, formed-kept, counted, answering, copied, kept-owning, kept-copied, eos-cache, eos-field, eos-looks, eos-counted, eos-answering, same-field, eos-at, eos-copied}
+use Rattle.expr.proofs.Laws.{finish, after-answers, finish-done, look-hit, look-copied, look-rest, up-finish, up-look, up-count}
+use Rattle.expr.proofs.Along.{none-in-order, children-from, along-none, after-seen, Leaf-kind, leaf-kind, leaf-ended}
 
 -- Of Bools and lists -------------------------------------------------------------------------------------------------------------
 
@@ -90,6 +90,11 @@ unfolding held
 held-kind recs l true = refl
 held-kind recs l false = refl
 
+held-scalar : (recs : List ℕ) (l : ℕ) (off : Bool) → held recs l off .scalar ≡ stored-expr recs l .scalar
+unfolding held
+held-scalar recs l true = refl
+held-scalar recs l false = refl
+
 held-length-preserving : (recs : List ℕ) (l : ℕ) (off : Bool) → held recs l off .length-preserving ≡ stored-expr recs l .length-preserving
 unfolding held
 held-length-preserving recs l true = refl
@@ -108,327 +113,400 @@ module _ (recs : List ℕ) (n : ℕ) (s : State) (p : ℕ) (based : Based recs n
   pub line-formed : Expr-formed recs (getD (s .line) p 0)
   line-formed = based .formed (getD (s .line) p 0) line-below
 
-  preserves-is : expr-at (eos-of recs n s .expr-arena) p .length-preserving ≡ preserves recs (s .line) p
-  preserves-is =
-      rw (eos-at recs n s p within, held-length-preserving recs (getD (s .line) p 0) (getD (s .off) p false), stored recs (getD (s .line) p 0) line-room line-formed)
+  preserves-is : (tally : Tally) → expr-at (eos-of tally recs n s .expr-arena) p .length-preserving ≡ preserves recs (s .line) p
+  preserves-is tally =
+      rw (eos-at tally recs n s p within, held-length-preserving recs (getD (s .line) p 0) (getD (s .off) p false), stored recs (getD (s .line) p 0) line-room line-formed)
 
-pub count-fits : (recs : List ℕ) (n : ℕ) (s : State) (p : ℕ) (allow : Bool) → LookAsks recs n s p allow → s .tally .looks + 1 < 2 ^ 64
-count-fits recs n s p allow r = go (r .fuel) (r .enough) (r .fits)
-  where
-    go : (f : ℕ) → getD (s .line) p 0 < f → look f allow p (eos-of recs n s) .1 .tally .looks < 2 ^ 64 → s .tally .looks + 1 < 2 ^ 64
-    go zero h k = absurd (omega arith)
-    go (suc f) h k = rw (← eos-looks recs n s) (lt-of-le-of-lt (up-count f allow p (eos-of recs n s)) k)
-
--- before the first child
-pub begun-none : {l : ℕ} → Begun l 0 [] none-seen
-begun-none =
-    record {
-      length-is = refl;
-      sees = record { first = refl; second = refl; third = refl };
-      most = le-refl _;
-      near = λ h. absurd (omega arith);
-      start = λ h. refl;
-    }
-
--- A look at p, whose record is e -------------------------------------------------------------------------------------------------
-
-module _ (recs : List ℕ) (n : ℕ) (s : State) (p : ℕ) (allow : Bool) (r : LookAsks recs n s p allow) (e : ExprRecord)
-    (is-e : IsHeld recs (getD (s .line) p 0) (getD (s .off) p false) e) where
-  abbrev S : plan.Eos
-  S = eos-of recs n s
-
-  abbrev E : Expr
-  E = record-of e
+module _ (recs : List ℕ) (n : ℕ) (s : State) (p : ℕ) (allow : Bool) (r : LookAsks recs n s p allow) where
+  abbrev S : Tally → plan.Eos
+  S tally = eos-of tally recs n s
 
   abbrev l : ℕ
   l = getD (s .line) p 0
 
-  E-is : E ≡ expr-at (S .expr-arena) p
-  E-is = is-e .is ∙ sym (eos-at recs n s p (r .within))
-
-  children-is : E .children ≡ stored-expr recs l .children
-  children-is = ap (λ (x : Expr). x .children) (is-e .is) ∙ held-children recs l (getD (s .off) p false)
-
-  kind-is : E .kind ≡ stored-expr recs l .kind
-  kind-is = ap (λ (x : Expr). x .kind) (is-e .is) ∙ held-kind recs l (getD (s .off) p false)
-
   l-below : l < n
   l-below = line-below recs n s p (r .based) (r .formed) (r .within)
 
-  pub e-falls : Falls l (E .children)
-  e-falls = rw children-is (r .based .falls l l-below)
+  pub count-fits : s .own .looks + 1 < 2 ^ 58
+  count-fits = go (r .fuel) (r .enough) (r .fits)
+    where
+      go : (f : ℕ) → l < f → look f allow p (S (r .tally)) .1 .tally .looks < 2 ^ 58 → s .own .looks + 1 < 2 ^ 58
+      go zero h k = absurd (omega arith)
+      go (suc f) h k = omega (arith, eos-looks (r .tally) recs n s, up-count f allow p (S (r .tally)), k)
 
-  pub e-readable : Readable (s .line) (E .children)
-  e-readable =
-      record {
-        child = λ k h. omega (arith, e-falls .child k h, l-below, r .based .few);
-        held = λ k h.
-            let c = getD (E .children) k 0 in
-            omega (arith, e-falls .child k h, l-below, r .based .few, r .formed .below c (omega (arith, e-falls .child k h, l-below)));
-      }
+  -- A leaf: k is the number of its kind, and it has no children ------------------------------------------------------------------
 
-  replaced-is : is-replaced (S .expr-arena) E allow ≡ is-replaced-line recs (s .line) E allow
-  unfolding is-replaced
-  replaced-is =
-      rw (
-      all-same (λ q. expr-at (S .expr-arena) q .length-preserving) (preserves recs (s .line)) (E .children)
-      (λ k h. preserves-is recs n s (getD (E .children) k 0) (r .based) (r .formed) (omega (arith, e-falls .child k h, l-below)))
-      )
+  module _ (leafy : (ltb (getD recs (l * 16) 0) 5 && eqb (getD recs (l * 16 + 12) 0) 0) ≡ true) where
+    abbrev k : ℕ
+    k = getD recs (l * 16) 0
 
-  module _ (b : Before) (b-is : b ≡ before E allow (e .kind)) where
-    abbrev entry : ℕ
-    entry = getD (s .cache) p 0
+    pub leaf-number : k < 5
+    leaf-number = ltb-true k 5 (and-left (ltb k 5) _ leafy)
 
-    abbrev asked : Option ObservableOrders
-    asked = check-return-cached (before E allow (e .kind)) p (one-look S)
+    module _ (o : ObservableOrders) (o-is : Leaf k (eqb (getD recs (l * 16 + 1) 0) 1) (s .own .field) o) where
+      abbrev leaf-expr : Expr
+      leaf-expr = held recs l (getD (s .off) p false)
 
-    asked-is : asked ≡ (if b .checks then (if eqb entry 0 then none else some (unpacked entry)) else none)
-    unfolding check-return-cached cache-of
-    asked-is = rw (← b-is, eos-cache recs n s)
+      leaf-stored : stored-expr recs l
+          ≡ record {
+            kind = aexpr k;
+            scalar = eqb (getD recs (l * 16 + 1) 0) 1;
+            length-preserving = stored-expr recs l .length-preserving;
+            option = stored-expr recs l .option;
+            children = [];
+          }
+      leaf-stored =
+          let none-there : getD recs (l * 16 + 12) 0 ≡ 0 = eqb-true (getD recs (l * 16 + 12) 0) 0 (and-right (ltb k 5) _ leafy) in
+          rw (stored recs l (line-room recs n s p (r .based) (r .formed) (r .within)) (line-formed recs n s p (r .based) (r .formed) (r .within)), none-there)
 
-    found : (c z : Bool) → (c && not z) ≡ true → (if c then (if z then none else some (unpacked entry)) else none) ≡ some (unpacked entry)
-    found true true h = absurd (no h)
-    found true false h = refl
-    found false z h = absurd (no h)
+      leaf-kind-is : leaf-expr .kind ≡ aexpr k
+      leaf-kind-is = held-kind recs l (getD (s .off) p false) ∙ ap (λ (x : Expr). x .kind) leaf-stored
 
-    lacking : (c z : Bool) → (c && not z) ≡ false → (if c then (if z then none else some (unpacked entry)) else none) ≡ none
-    lacking true true h = refl
-    lacking true false h = absurd (no (sym h))
-    lacking false z h = refl
+      leaf-scalar : leaf-expr .scalar ≡ eqb (getD recs (l * 16 + 1) 0) 1
+      leaf-scalar = held-scalar recs l (getD (s .off) p false) ∙ ap (λ (x : Expr). x .scalar) leaf-stored
 
-    -- check_return_cached!
-    pub gives-hit : (o : ObservableOrders) → (b .checks && not (eqb entry 0)) ≡ true → o ≡ unpacked entry → LookGives recs n s p allow (answering o (counted s))
-    gives-hit o h q = record { is = hit-is; kept = kept-trans (kept-counted s) (kept-answering o (counted s)) }
-      where
-        hit-is : (f : ℕ) → l < f → looked-of recs n (answering o (counted s)) ≡ look f allow p S
-        hit-is zero i = absurd (omega arith)
-        hit-is (suc f) i =
-            rw (eos-answering recs n (counted s) o, eos-counted recs n s, q)
-            (sym (look-hit f allow p S E E-is (unpacked entry) (asked-is ∙ found (b .checks) (eqb entry 0) h)))
+      leaf-children : leaf-expr .children ≡ []
+      leaf-children = held-children recs l (getD (s .off) p false) ∙ ap (λ (x : Expr). x .children) leaf-stored
 
-    module _ (miss : (b .checks && not (eqb entry 0)) ≡ false) where
-      asked-none : asked ≡ none
-      asked-none = asked-is ∙ lacking (b .checks) (eqb entry 0) miss
+      K : Leaf-kind leaf-expr allow (leaf-expr .kind)
+      K = subst (Leaf-kind leaf-expr allow) (sym leaf-kind-is) (leaf-kind leaf-expr allow k leaf-number)
 
-      -- the first child's record takes the place of e
-      module _ (x : Bool) (x-is : x ≡ is-replaced-line recs (s .line) E allow) (taken : x ≡ true) (c : ℕ) (c-is : c ≡ getD (E .children) 0 0) where
-        gone : is-replaced-line recs (s .line) E allow ≡ true
-        gone = sym x-is ∙ taken
+      and-no : (a : Bool) → (a && false) ≡ false
+      and-no true = refl
+      and-no false = refl
 
-        is-sorting : (t a : Bool) (k : AExpr) → (t && (same-aexpr k AExpr.Sort || (same-aexpr k AExpr.SortBy && a))) ≡ true → sorts k ≡ true
-        is-sorting t a k h = go (same-aexpr k AExpr.Sort) (same-aexpr k AExpr.SortBy) (and-right t _ h)
-          where
-            go : (y z : Bool) → (y || (z && a)) ≡ true → (y || z) ≡ true
-            go true z h = refl
-            go false true h = refl
-            go false false h = h
+      module _ (tally : Tally) (f : ℕ) where
+        abbrev D₀ : Answers
+        D₀ = ([], no-orders, enter-struct leaf-expr [] (one-look (S tally)))
 
-        some-child : 0 < length (E .children)
-        some-child =
-            rw children-is
-            (r .based .sorted l l-below (rw (← kind-is) (is-sorting allow (all? (preserves recs (s .line)) (E .children)) (E .kind) gone)))
+        leaf-unasked : check-return-cached (before leaf-expr allow (leaf-expr .kind)) p (one-look (S tally)) ≡ none
+        unfolding check-return-cached
+        leaf-unasked = rw (K .checks)
 
-        c-falls : c < l
-        c-falls = rw c-is (e-falls .child 0 some-child)
+        leaf-stays : is-replaced (S tally .expr-arena) leaf-expr allow ≡ false
+        unfolding is-replaced
+        leaf-stays = rw (K .sort, K .sort-by) (and-no allow)
 
-        pub child-128 : c < 128
-        child-128 = omega (arith, c-falls, l-below, r .based .few)
+        leaf-queue : in-order (before leaf-expr allow (leaf-expr .kind)) (leaf-expr .children) ≡ []
+        leaf-queue = none-in-order (before leaf-expr allow (leaf-expr .kind)) (leaf-expr .children) leaf-children
 
-        c-within : c < n
-        c-within = omega (arith, c-falls, l-below)
+        leaf-after : after-answers allow leaf-expr (S tally .struct-field-ordering) D₀ ≡ plan.plain o
+        leaf-after =
+            ap (after leaf-expr allow (S tally .struct-field-ordering) [] no-orders) leaf-kind-is
+            ∙ rw (eos-field tally recs n s) (o-is .is leaf-expr allow leaf-scalar)
 
-        abbrev t₁ : State
-        t₁ = copied p c (counted s)
+        leaf-whole : look (suc f) allow p (S tally) ≡ (o, one-look (S tally))
+        leaf-whole =
+            look-rest f allow p (S tally) leaf-expr (sym (eos-at tally recs n s p (r .within))) leaf-unasked leaf-stays
+            ∙ rw (children-from (look f) leaf-expr (before leaf-expr allow (leaf-expr .kind)) (one-look (S tally)), along-none (look f) leaf-expr (before leaf-expr allow (leaf-expr .kind)) [] no-orders (one-look (S tally)) leaf-queue)
+            (ap (finish (look f) p leaf-expr (S tally .struct-field-ordering) D₀) leaf-after
+            ∙ finish-done (look f) p leaf-expr (S tally .struct-field-ordering) D₀ (plan.plain o) refl
+            ∙ ap (λ (z : plan.Eos). (o, z)) (leaf-ended p leaf-expr o (one-look (S tally)) (K .implode)))
 
-        p-128 : p < 128
-        p-128 = omega (arith, r .within, r .based .few)
+      leaf-is : (tally : Tally) (f : ℕ) → l < f → looked-of tally recs n (answering o (counted s)) ≡ look f allow p (S tally)
+      leaf-is tally zero h = absurd (omega arith)
+      leaf-is tally (suc f) h = rw (eos-answering tally recs n (counted s) o, eos-counted tally recs n s) (sym (leaf-whole tally f))
 
-        here : getD (t₁ .line) p 0 ≡ getD (s .line) c 0
-        here = getD-set-same (s .line) p (getD (s .line) c 0) 0 (rw (r .formed .sized .line) p-128)
+      pub gives-leaf : LookGives recs n s p allow (answering o (counted s))
+      gives-leaf = record { is = leaf-is; kept = kept-owning _ s }
 
-        pub copy-falls : getD (t₁ .line) p 0 < l
-        copy-falls = rw here (lt-of-le-of-lt (r .formed .below c c-within) c-falls)
+  -- Another record, e ------------------------------------------------------------------------------------------------------------
 
-        t₁-kept : Kept s t₁
-        t₁-kept =
-            kept-trans (kept-counted s)
-            (kept-copied p c (counted s) (rw (r .formed .sized .line) p-128) (le-of-lt (lt-of-le-of-lt (r .formed .below c c-within) c-falls)))
+  module _ (e : ExprRecord) (is-e : IsHeld recs l (getD (s .off) p false) e) where
+    abbrev E : Expr
+    E = record-of e
 
-        t₁-is : eos-of recs n t₁ ≡ replace-by-input p E (one-look S)
-        t₁-is =
-            eos-copied recs n (counted s) p c (r .within) c-within (rw (r .formed .sized .line) p-128) (rw (r .formed .sized .off) p-128)
-            ∙ rw (eos-counted recs n s, c-is)
+    E-is : (tally : Tally) → E ≡ expr-at (S tally .expr-arena) p
+    E-is tally = is-e .is ∙ sym (eos-at tally recs n s p (r .within))
 
-        look-is : (f : ℕ) → look (suc f) allow p S ≡ look f allow p (eos-of recs n t₁)
-        look-is f = look-copied f allow p S E E-is asked-none (replaced-is ∙ gone) ∙ rw t₁-is
+    children-is : E .children ≡ stored-expr recs l .children
+    children-is = ap (λ (x : Expr). x .children) (is-e .is) ∙ held-children recs l (getD (s .off) p false)
 
-        pub copy-asks : LookAsks recs n t₁ p allow
-        copy-asks = go (r .fuel) (r .enough) (r .fits)
-          where
-            go : (f : ℕ) → l < f → look f allow p S .1 .tally .looks < 2 ^ 64 → LookAsks recs n t₁ p allow
-            go zero h k = absurd (omega arith)
-            go (suc f) h k =
-                record {
-                  based = r .based;
-                  formed = formed-kept (r .formed) t₁-kept;
-                  within = r .within;
-                  fuel = f;
-                  enough = omega (arith, copy-falls, h);
-                  fits = rw (look-is f) at k;
-                }
+    kind-is : E .kind ≡ stored-expr recs l .kind
+    kind-is = ap (λ (x : Expr). x .kind) (is-e .is) ∙ held-kind recs l (getD (s .off) p false)
 
-        pub gives-copy : (u : State) → LookGives recs n t₁ p allow u → LookGives recs n s p allow u
-        gives-copy u g = record { is = copy-is; kept = kept-trans t₁-kept (g .kept) }
-          where
-            copy-is : (f : ℕ) → l < f → looked-of recs n u ≡ look f allow p S
-            copy-is zero h = absurd (omega arith)
-            copy-is (suc f) h = g .is f (omega (arith, copy-falls, h)) ∙ sym (look-is f)
+    e-falls : Falls l (E .children)
+    e-falls = rw children-is (r .based .falls l l-below)
 
-      -- the record stays
-      module _ (x : Bool) (x-is : x ≡ is-replaced-line recs (s .line) E allow) (left : x ≡ false) where
-        stays : is-replaced-line recs (s .line) E allow ≡ false
-        stays = sym x-is ∙ left
+    pub e-reach : reach e ≤ l
+    e-reach = above-least (E .children) l e-falls
 
-        abbrev D : ℕ → Answers
-        D f = along-from (look f) E b 0 [] no-orders (eos-of recs n (counted s))
+    pub e-readable : Readable (s .line) (E .children)
+    e-readable =
+        record {
+          child = λ k h. omega (arith, e-falls .child k h, l-below, r .based .few);
+          held = λ k h.
+              let c = getD (E .children) k 0 in
+              omega (arith, e-falls .child k h, l-below, r .based .few, r .formed .below c (omega (arith, e-falls .child k h, l-below)));
+        }
 
-        rest-is : (f : ℕ) → look (suc f) allow p S ≡ finish (look f) p E (s .field) (D f) (after-answers allow E (s .field) (D f))
-        rest-is f =
-            look-rest f allow p S E E-is asked-none (replaced-is ∙ stays)
-            ∙ rw (b-is, eos-counted recs n s, eos-field recs n s)
+    replaced-is : (tally : Tally) → is-replaced (S tally .expr-arena) E allow ≡ is-replaced-line recs (s .line) E allow
+    unfolding is-replaced
+    replaced-is tally =
+        rw (
+        all-same (λ q. expr-at (S tally .expr-arena) q .length-preserving) (preserves recs (s .line)) (E .children)
+        (λ k h. preserves-is recs n s (getD (E .children) k 0) (r .based) (r .formed) (omega (arith, e-falls .child k h, l-below)) tally)
+        )
 
-        -- no children
-        module _ (none-there : e .count ≡ 0) (v : After) (u : State)
-            (v-is : after-of v ≡ after E allow (s .field) (answers none-seen) no-orders (e .kind))
-            (u-is : Ended (counted s) p E (after-of v) (v .answer) (s .field) ∅ u) where
-          empty : E .children ≡ []
-          empty = rw none-there
+    module _ (b : Before) (b-is : b ≡ before E allow (e .kind)) where
+      abbrev entry : ℕ
+      entry = getD (s .cache) p 0
 
-          D-is : (f : ℕ) → D f ≡ ([], no-orders, enter-struct E [] (eos-of recs n (counted s)))
-          D-is f = along-none (look f) E b (eos-of recs n (counted s)) empty
+      abbrev asked : Tally → Option ObservableOrders
+      asked tally = check-return-cached (before E allow (e .kind)) p (one-look (S tally))
 
-          V-is : after E allow (s .field) [] no-orders (e .kind) ≡ after-of v
-          V-is = after-seen E allow (s .field) [] none-seen no-orders (record { first = refl; second = refl; third = refl }) (e .kind) ∙ sym v-is
+      asked-is : (tally : Tally) → asked tally ≡ (if b .checks then (if eqb entry 0 then none else some (unpacked entry)) else none)
+      unfolding check-return-cached cache-of
+      asked-is tally = rw (← b-is, eos-cache tally recs n s)
 
-          abbrev entered-field : ObservableOrders
-          entered-field = if same-aexpr (E .kind) AExpr.StructEval then ∅ else eos-of recs n (counted s) .struct-field-ordering
+      found : (c z : Bool) → (c && not z) ≡ true → (if c then (if z then none else some (unpacked entry)) else none) ≡ some (unpacked entry)
+      found true true h = absurd (no h)
+      found true false h = refl
+      found false z h = absurd (no h)
 
-          leaf-is : (f : ℕ) → l < f → looked-of recs n u ≡ look f allow p S
-          leaf-is zero h = absurd (omega arith)
-          leaf-is (suc f) h =
-              u-is .is recs n [] (r .within) refl
-              ∙ sym (rest-is f
-              ∙ rw (D-is f, V-is)
-              (finish-done (look f) p E (s .field) ([], no-orders, enter-struct E [] (eos-of recs n (counted s))) (after-of v) (ap (λ (x : plan.After). x .again) (sym V-is) ∙ after-none E allow (s .field) (e .kind))
-              ∙ ap (λ (z : plan.Eos). (v .answer, z)) (ended-entered p E (after-of v) (v .answer) (s .field) entered-field [] (eos-of recs n (counted s)))))
+      lacking : (c z : Bool) → (c && not z) ≡ false → (if c then (if z then none else some (unpacked entry)) else none) ≡ none
+      lacking true true h = refl
+      lacking true false h = absurd (no (sym h))
+      lacking false z h = refl
 
-          pub gives-leaf : LookGives recs n s p allow u
-          gives-leaf = record { is = leaf-is; kept = kept-trans (kept-counted s) (u-is .kept) }
+      -- check_return_cached!
+      pub gives-hit : (o : ObservableOrders) → (b .checks && not (eqb entry 0)) ≡ true → o ≡ unpacked entry → LookGives recs n s p allow (answering o (counted s))
+      gives-hit o h q = record { is = hit-is; kept = kept-owning _ s }
+        where
+          hit-is : (tally : Tally) (f : ℕ) → l < f → looked-of tally recs n (answering o (counted s)) ≡ look f allow p (S tally)
+          hit-is tally zero i = absurd (omega arith)
+          hit-is tally (suc f) i =
+              rw (eos-answering tally recs n (counted s) o, eos-counted tally recs n s, q)
+              (sym (look-hit f allow p (S tally) E (E-is tally) (unpacked entry) (asked-is tally ∙ found (b .checks) (eqb entry 0) h)))
 
-        -- along the children
-        pub along-asks : 0 < e .count → AlongAsks recs n (counted s) e b l none-seen 0
-        along-asks more = go (r .fuel) (r .enough) (r .fits)
-          where
-            go : (f : ℕ) → l < f → look f allow p S .1 .tally .looks < 2 ^ 64 → AlongAsks recs n (counted s) e b l none-seen 0
-            go zero h k = absurd (omega arith)
-            go (suc f) h k =
-                record {
-                  based = r .based;
-                  formed = formed-kept (r .formed) (kept-counted s);
-                  shaped = is-e .shaped;
-                  falls = e-falls;
-                  within = le-of-lt l-below;
-                  more = more;
-                  os = [];
-                  begun = begun-none;
-                  fuel = f;
-                  enough = omega (arith, h);
-                  fits = lt-of-le-of-lt (up-finish (look f) (up-look f) p E (s .field) (D f) (after-answers allow E (s .field) (D f))) (rw (rest-is f) at k);
-                }
+      module _ (miss : (b .checks && not (eqb entry 0)) ≡ false) where
+        asked-none : (tally : Tally) → asked tally ≡ none
+        asked-none tally = asked-is tally ∙ lacking (b .checks) (eqb entry 0) miss
 
-        module _ (w : Walked) (g : AlongGives recs n (counted s) e b l none-seen 0 w) (v : After)
-            (v-is : after-of v ≡ after E allow (s .field) (answers (w .seen)) (w .seen .acc) (e .kind)) where
-          walk-is : (f : ℕ) → l ≤ f → IsWalk recs n w (D f)
-          walk-is f h = g .is f h [] begun-none
+        -- the first child's record takes the place of e
+        module _ (x : Bool) (x-is : x ≡ is-replaced-line recs (s .line) E allow) (taken : x ≡ true) (c : ℕ) (c-is : c ≡ getD (E .children) 0 0) where
+          gone : is-replaced-line recs (s .line) E allow ≡ true
+          gone = sym x-is ∙ taken
 
-          V-walk : (f : ℕ) → l ≤ f → after-answers allow E (s .field) (D f) ≡ after-of v
-          V-walk f h =
-              after-seen E allow (s .field) (D f .0) (w .seen) (D f .1) (walk-is f h .sees) (e .kind)
-              ∙ rw (walk-is f h .acc) (sym v-is)
+          is-sorting : (t a : Bool) (k : AExpr) → (t && (same-aexpr k AExpr.Sort || (same-aexpr k AExpr.SortBy && a))) ≡ true → sorts k ≡ true
+          is-sorting t a k h = go (same-aexpr k AExpr.Sort) (same-aexpr k AExpr.SortBy) (and-right t _ h)
+            where
+              go : (y z : Bool) → (y || (z && a)) ≡ true → (y || z) ≡ true
+              go true z h = refl
+              go false true h = refl
+              go false false h = h
 
-          look-walk : (f : ℕ) → l ≤ f → look (suc f) allow p S ≡ finish (look f) p E (s .field) (D f) (after-of v)
-          look-walk f h = rest-is f ∙ ap (finish (look f) p E (s .field) (D f)) (V-walk f h)
+          some-child : 0 < length (E .children)
+          some-child =
+              rw children-is
+              (r .based .sorted l l-below (rw (← kind-is) (is-sorting allow (all? (preserves recs (s .line)) (E .children)) (E .kind) gone)))
 
-          walk-kept : Kept s (w .state)
-          walk-kept = kept-trans (kept-counted s) (g .kept)
+          c-falls : c < l
+          c-falls = rw c-is (e-falls .child 0 some-child)
 
-          -- the single ordered child once more
-          module _ (twice : v .again ≡ true) where
+          pub child-128 : c < 128
+          child-128 = omega (arith, c-falls, l-below, r .based .few)
+
+          c-within : c < n
+          c-within = omega (arith, c-falls, l-below)
+
+          abbrev t₁ : State
+          t₁ = copied p c (counted s)
+
+          p-128 : p < 128
+          p-128 = omega (arith, r .within, r .based .few)
+
+          here : getD (t₁ .line) p 0 ≡ getD (s .line) c 0
+          here = getD-set-same (s .line) p (getD (s .line) c 0) 0 (rw (r .formed .sized .line) p-128)
+
+          pub copy-falls : getD (t₁ .line) p 0 < l
+          copy-falls = rw here (lt-of-le-of-lt (r .formed .below c c-within) c-falls)
+
+          t₁-kept : Kept s t₁
+          t₁-kept =
+              kept-trans (kept-owning _ s)
+              (kept-copied p c (counted s) (rw (r .formed .sized .line) p-128) (le-of-lt (lt-of-le-of-lt (r .formed .below c c-within) c-falls)))
+
+          t₁-is : (tally : Tally) → eos-of tally recs n t₁ ≡ replace-by-input p E (one-look (S tally))
+          t₁-is tally =
+              eos-copied tally recs n (counted s) p c (r .within) c-within (rw (r .formed .sized .line) p-128) (rw (r .formed .sized .off) p-128)
+              ∙ rw (eos-counted tally recs n s, c-is)
+
+          look-is : (tally : Tally) (f : ℕ) → look (suc f) allow p (S tally) ≡ look f allow p (eos-of tally recs n t₁)
+          look-is tally f = look-copied f allow p (S tally) E (E-is tally) (asked-none tally) (replaced-is tally ∙ gone) ∙ rw (t₁-is tally)
+
+          pub copy-asks : LookAsks recs n t₁ p allow
+          copy-asks = go (r .fuel) (r .enough) (r .fits)
+            where
+              go : (f : ℕ) → l < f → look f allow p (S (r .tally)) .1 .tally .looks < 2 ^ 58 → LookAsks recs n t₁ p allow
+              go zero h k = absurd (omega arith)
+              go (suc f) h k =
+                  record {
+                    based = r .based;
+                    formed = formed-kept (r .formed) t₁-kept;
+                    within = r .within;
+                    tally = r .tally;
+                    fuel = f;
+                    enough = omega (arith, copy-falls, h);
+                    fits = rw (look-is (r .tally) f) at k;
+                  }
+
+          pub gives-copy : (u : State) → LookGives recs n t₁ p allow u → LookGives recs n s p allow u
+          gives-copy u g = record { is = copy-is; kept = kept-trans t₁-kept (g .kept) }
+            where
+              copy-is : (tally : Tally) (f : ℕ) → l < f → looked-of tally recs n u ≡ look f allow p (S tally)
+              copy-is tally zero h = absurd (omega arith)
+              copy-is tally (suc f) h = g .is tally f (omega (arith, copy-falls, h)) ∙ sym (look-is tally f)
+
+        -- the record stays
+        module _ (x : Bool) (x-is : x ≡ is-replaced-line recs (s .line) E allow) (left : x ≡ false) where
+          stays : is-replaced-line recs (s .line) E allow ≡ false
+          stays = sym x-is ∙ left
+
+          abbrev D : Tally → ℕ → Answers
+          D tally f = look-along-children (look f) E b (eos-of tally recs n (counted s))
+
+          rest-is : (tally : Tally) (f : ℕ) → look (suc f) allow p (S tally) ≡ finish (look f) p E (s .own .field) (D tally f) (after-answers allow E (s .own .field) (D tally f))
+          rest-is tally f =
+              look-rest f allow p (S tally) E (E-is tally) (asked-none tally) (replaced-is tally ∙ stays)
+              ∙ rw (b-is, eos-counted tally recs n s, eos-field tally recs n s)
+
+          -- along the children
+          pub along-asks : AlongAsks recs n (counted s) e b
+          along-asks = go (r .fuel) (r .enough) (r .fits)
+            where
+              go : (f : ℕ) → l < f → look f allow p (S (r .tally)) .1 .tally .looks < 2 ^ 58 → AlongAsks recs n (counted s) e b
+              go zero h k = absurd (omega arith)
+              go (suc f) h k =
+                  let d = D (r .tally) f in
+                  record {
+                    based = r .based;
+                    formed = formed-kept (r .formed) (kept-owning _ s);
+                    shaped = is-e .shaped;
+                    within = omega (arith, e-reach, l-below);
+                    tally = r .tally;
+                    fuel = f;
+                    enough = omega (arith, e-reach, h);
+                    fits = lt-of-le-of-lt (up-finish (look f) (up-look f) p E (s .own .field) d (after-answers allow E (s .own .field) d)) (rw (rest-is (r .tally) f) at k);
+                  }
+
+          module _ (w : Walked) (g : AlongGives recs n (counted s) e b w) (v : After)
+              (v-is : after-of v ≡ after E allow (s .own .field) (answers (w .seen)) (w .seen .acc) (e .kind)) where
+            walk-is : (tally : Tally) (f : ℕ) → l ≤ f → IsWalk tally recs n (e .count) w (D tally f)
+            walk-is tally f h = g .is tally f (omega (arith, e-reach, h))
+
+            V-walk : (tally : Tally) (f : ℕ) → l ≤ f → after-answers allow E (s .own .field) (D tally f) ≡ after-of v
+            V-walk tally f h =
+                let is = walk-is tally f h in
+                after-seen E allow (s .own .field) (D tally f .0) (w .seen) (D tally f .1) (is .sees) (e .kind)
+                ∙ rw (is .acc) (sym v-is)
+
+            look-walk : (tally : Tally) (f : ℕ) → l ≤ f → look (suc f) allow p (S tally) ≡ finish (look f) p E (s .own .field) (D tally f) (after-of v)
+            look-walk tally f h = rest-is tally f ∙ ap (finish (look f) p E (s .own .field) (D tally f)) (V-walk tally f h)
+
+            walk-kept : Kept s (w .state)
+            walk-kept = kept-trans (kept-owning _ s) (g .kept)
+
+            walk-formed : Formed n (w .state)
+            walk-formed = formed-kept (r .formed) walk-kept
+
+            -- the single ordered child once more
             abbrev node : ℕ
             node = w .seen .acc .«last_ordered_node»
 
-            one-ordered : single (w .seen .acc) ≡ true
-            one-ordered =
-                again-single E allow (s .field) (answers (w .seen)) (w .seen .acc) (e .kind)
-                (ap (λ (x : plan.After). x .again) (sym v-is) ∙ twice)
+            one-ordered : v .again ≡ true → w .seen .acc .«num_ordered_inputs» ≡ 1
+            one-ordered twice =
+                eqb-true (w .seen .acc .«num_ordered_inputs») 1
+                (again-single E allow (s .own .field) (answers (w .seen)) (w .seen .acc) (e .kind)
+                (ap (λ (x : plan.After). x .again) (sym v-is) ∙ twice))
 
-            node-near : node < l
-            node-near = g .near (omega (arith, eqb-true (w .seen .acc .«num_ordered_inputs») 1 one-ordered))
+            node-near : v .again ≡ true → node < l
+            node-near twice = lt-of-lt-of-le (g .near (omega (arith, one-ordered twice))) e-reach
 
-            again-formed : Formed n (w .state)
-            again-formed = formed-kept (r .formed) walk-kept
+            again-below : v .again ≡ true → getD (w .state .line) node 0 < l
+            again-below twice = lt-of-le-of-lt (walk-formed .below node (omega (arith, node-near twice, l-below))) (node-near twice)
 
-            pub again-falls : getD (w .state .line) node 0 < l
-            again-falls = lt-of-le-of-lt (again-formed .below node (omega (arith, node-near, l-below))) node-near
-
-            second : (f : ℕ) → l ≤ f → look f true (D f .1 .«last_ordered_node») (D f .2) ≡ look f true node (eos-of recs n (w .state))
-            second f h = rw (walk-is f h .acc, walk-is f h .state)
-
-            look-twice : (f : ℕ) → l ≤ f
-                → look (suc f) allow p S ≡ ended-by (look f true node (eos-of recs n (w .state))) p E (after-of v) (s .field) (D f .0)
-            look-twice f h = look-walk f h ∙ finish-again (look f) p E (s .field) (D f) (after-of v) twice ∙ rw (second f h)
-
-            ended-looks : (f : ℕ) → l ≤ f → look (suc f) allow p S .1 .tally .looks ≡ look f true node (eos-of recs n (w .state)) .1 .tally .looks
-            unfolding look-ended
-            ended-looks f h = ap (λ (x : ObservableOrders × plan.Eos). x .1 .tally .looks) (look-twice f h)
-
-            pub again-asks : LookAsks recs n (w .state) node true
-            again-asks = go (r .fuel) (r .enough) (r .fits)
+            pub again-falls : (if v .again then getD (w .state .line) node 0 * 2 + 2 else 0) < l * 2 + 1
+            again-falls = go (v .again) refl
               where
-                go : (f : ℕ) → l < f → look f allow p S .1 .tally .looks < 2 ^ 64 → LookAsks recs n (w .state) node true
-                go zero h k = absurd (omega arith)
-                go (suc f) h k =
+                go : (t : Bool) → v .again ≡ t → (if t then getD (w .state .line) node 0 * 2 + 2 else 0) < l * 2 + 1
+                go true h = omega (arith, again-below h)
+                go false h = omega arith
+
+            -- the definition's, from the code's state
+            abbrev second : Tally → ℕ → ObservableOrders × plan.Eos
+            second tally f = look-again (look f) (v .again) (w .seen .acc) (eos-of tally recs n (w .state))
+
+            finish-is : (tally : Tally) (f : ℕ) → l ≤ f → (t : Bool) → v .again ≡ t
+                → finish (look f) p E (s .own .field) (D tally f) (after-of v)
+                ≡ ended-by p E (after-of v) (s .own .field) (D tally f .0) (answer-by (after-of v) (second tally f))
+            unfolding look-again look-ended
+            finish-is tally f h true twice =
+                let is = walk-is tally f h in
+                let entered : D tally f .2 ≡ eos-of tally recs n (w .state) =
+                is .state ∙ rw (is .same (omega (arith, one-ordered twice, g .most))) (same-field tally recs n (w .state)) in
+                rw (is .acc, entered)
+            finish-is tally f h false once = let is = walk-is tally f h in rw (once, is .state)
+
+            whole : (tally : Tally) (f : ℕ) → l ≤ f
+                → look (suc f) allow p (S tally) ≡ ended-by p E (after-of v) (s .own .field) (D tally f .0) (answer-by (after-of v) (second tally f))
+            whole tally f h = look-walk tally f h ∙ finish-is tally f h (v .again) refl
+
+            again-looks : v .again ≡ true → (tally : Tally) (f : ℕ) → l ≤ f
+                → look (suc f) allow p (S tally) .1 .tally .looks ≡ look f true node (eos-of tally recs n (w .state)) .1 .tally .looks
+            unfolding look-again look-ended
+            again-looks twice tally f h = ap (λ (x : ObservableOrders × plan.Eos). x .1 .tally .looks) (whole tally f h) ∙ rw twice
+
+            pub again-asks : AgainAsks recs n (w .state) v node
+            again-asks = record { look = λ twice. go twice (r .fuel) (r .enough) (r .fits) }
+              where
+                go : v .again ≡ true → (f : ℕ) → l < f → look f allow p (S (r .tally)) .1 .tally .looks < 2 ^ 58 → LookAsks recs n (w .state) node true
+                go twice zero h k = absurd (omega arith)
+                go twice (suc f) h k =
                     record {
                       based = r .based;
-                      formed = again-formed;
-                      within = omega (arith, node-near, l-below);
+                      formed = walk-formed;
+                      within = omega (arith, node-near twice, l-below);
+                      tally = r .tally;
                       fuel = f;
-                      enough = omega (arith, again-falls, h);
-                      fits = rw (ended-looks f (omega (arith, h))) at k;
+                      enough = omega (arith, again-below twice, h);
+                      fits = rw (again-looks twice (r .tally) f (omega (arith, h))) at k;
                     }
 
             -- u is the state after it, t at the end of the look at p
-            module _ (u : State) (g₂ : LookGives recs n (w .state) node true u) (o : ObservableOrders) (o-is : o ≡ after-of v .answer-again (u .answer))
-                (t : State) (t-is : Ended u p E (after-of v) o (s .field) (w .seen .first) t) where
-              again-is : (f : ℕ) → l < f → looked-of recs n t ≡ look f allow p S
-              again-is zero h = absurd (omega arith)
-              again-is (suc f) h =
+            module _ (u : State) (g₂ : AgainGives recs n (w .state) v node u) (field : ObservableOrders) (field-is : field ≡ s .own .field)
+                (t : State) (t-is : Ended u p E (after-of v) field (w .seen .first) t) where
+              whole-is : (tally : Tally) (f : ℕ) → l < f → looked-of tally recs n t ≡ look f allow p (S tally)
+              whole-is tally zero h = absurd (omega arith)
+              whole-is tally (suc f) h =
                   let k : l ≤ f = omega (arith, h) in
-                  t-is .is recs n (D f .0) (r .within) (walk-is f k .sees .first)
-                  ∙ rw o-is (ap (λ (x : ObservableOrders × plan.Eos). ended-by x p E (after-of v) (s .field) (D f .0)) (g₂ .is f (omega (arith, again-falls, k))))
-                  ∙ sym (look-twice f k)
+                  t-is .is tally recs n (D tally f .0) (r .within) (walk-is tally f k .sees .first)
+                  ∙ rw field-is (ap (ended-by p E (after-of v) (s .own .field) (D tally f .0)) (g₂ .is tally f (λ twice. omega (arith, again-below twice, k)) (w .seen .acc) refl))
+                  ∙ sym (whole tally f k)
 
-              pub gives-again : LookGives recs n s p allow t
-              gives-again = record { is = again-is; kept = kept-trans walk-kept (kept-trans (g₂ .kept) (t-is .kept)) }
+              pub gives-whole : LookGives recs n s p allow t
+              gives-whole = record { is = whole-is; kept = kept-trans walk-kept (kept-trans (g₂ .kept) (t-is .kept)) }
 
-          -- no second look
-          module _ (once : v .again ≡ false) (t : State) (t-is : Ended (w .state) p E (after-of v) (v .answer) (s .field) (w .seen .first) t) where
-            done-is : (f : ℕ) → l < f → looked-of recs n t ≡ look f allow p S
-            done-is zero h = absurd (omega arith)
-            done-is (suc f) h =
-                let k : l ≤ f = omega (arith, h) in
-                t-is .is recs n (D f .0) (r .within) (walk-is f k .sees .first)
-                ∙ sym (look-walk f k ∙ finish-done (look f) p E (s .field) (D f) (after-of v) once ∙ rw (walk-is f k .state))
+-- The second look ----------------------------------------------------------------------------------------------------------------
 
-            pub gives-done : LookGives recs n s p allow t
-            gives-done = record { is = done-is; kept = kept-trans walk-kept (t-is .kept) }
+module _ (recs : List ℕ) (n : ℕ) (s : State) (v : After) (node : ℕ) where
+  module _ (twice : v .again ≡ true) (u : State) (g : LookGives recs n s node true u) (o : ObservableOrders)
+      (o-is : o ≡ output-of (v .answer) (v .«answer_again») (u .own .answer)) where
+    twice-is : (tally : Tally) (f : ℕ) → (v .again ≡ true → getD (s .line) node 0 < f) → (x : ExprOrderAcc) → x .«last_ordered_node» ≡ node
+        → looked-of tally recs n (answering o u) ≡ answer-by (after-of v) (look-again (look f) (v .again) x (eos-of tally recs n s))
+    unfolding look-again
+    twice-is tally f h x q =
+        rw (twice, q, o-is, eos-answering tally recs n u (output-of (v .answer) (v .«answer_again») (u .own .answer)))
+        (ap (λ (z : ObservableOrders × plan.Eos). (output-of (v .answer) (v .«answer_again») (z .0), z .1)) (g .is tally f (h twice)))
+
+    pub gives-twice : AgainGives recs n s v node (answering o u)
+    gives-twice = record { is = twice-is; kept = kept-trans (g .kept) (kept-owning _ u) }
+
+  module _ (once : v .again ≡ false) where
+    once-is : (tally : Tally) (f : ℕ) → (v .again ≡ true → getD (s .line) node 0 < f) → (x : ExprOrderAcc) → x .«last_ordered_node» ≡ node
+        → looked-of tally recs n (answering (v .answer) s) ≡ answer-by (after-of v) (look-again (look f) (v .again) x (eos-of tally recs n s))
+    unfolding look-again
+    once-is tally f h x q = rw (once, eos-answering tally recs n s (v .answer))
+
+    pub gives-once : AgainGives recs n s v node (answering (v .answer) s)
+    gives-once = record { is = once-is; kept = kept-owning _ s }

@@ -1,4 +1,5 @@
 pub mod Cache
+pub mod Eos
 pub mod Seen
 pub mod Record
 pub mod Tables

@@ -1,8 +1,8 @@
 -- The state of the looks as the definition has it, and what a look asks of it.
 use mathlib.Core.Path.{_≡_}
-use Prim.Native.Nat.{ℕ, _+_, _*_, _≤_, _<_}
+use Prim.Native.Nat.{ℕ, suc, _+_, _-_, _*_, _≤_, _<_}
 use mathlib.Core.Bool.{Bool, true, _&&_, _||_}
-use mathlib.Core.List.{List}
+use mathlib.Core.List.{List, [], _∷_}
 use lib.Dec.{eqb}
 use lib.ListN.{length, getD}
 use Rattle.plan.specs.declared.aexpr.AExpr.{AExpr}
@@ -12,33 +12,30 @@ use Rattle.plan.specs.Sheet.{Expr}
 use Rattle.plan.specs.Look as look
 use Rattle.storage.specs.Stored.{stored-expr, arena-of, Expr-formed}
 use Rattle.plan.specs.declared.tally.Tally.{Tally}
-use Rattle.plan.specs.declared.orders.ObservableOrders.{ObservableOrders}
-use Rattle.expr.specs.declared.look.Eos.{Eos}
+use Rattle.plan.specs.Tally.{looks-more}
+use Rattle.expr.specs.declared.eos.Eos.{Eos}
 use Rattle.expr.specs.Cache.{cache-of}
+use Rattle.expr.specs.Eos.{Own, own-of}
 
--- the lines and the cache that are lent, and the state beside them
+-- the lines and the cache that are lent, and what the looks own beside them
 pub record State : Type 0 where
   pub line : List ℕ
   pub off : List Bool
   pub cache : List ℕ
-  pub field : ObservableOrders
-  pub observed : ObservableOrders
-  pub tally : Tally
-  pub answer : ObservableOrders
+  pub own : Own
 
 abbrev pub state : List ℕ → List Bool → List ℕ → Eos → State
-state line off cache s =
-    record { line = line; off = off; cache = cache; field = s .field; observed = s .observed; tally = s .tally; answer = s .answer }
+state line off cache s = record { line = line; off = off; cache = cache; own = own-of s }
 
--- as the definition has it
-unfoldable pub eos-of : List ℕ → ℕ → State → look.Eos
-eos-of recs n s =
+-- as the definition has it; the run's tally before the visit goes on by the looks of the visit
+unfoldable pub eos-of : Tally → List ℕ → ℕ → State → look.Eos
+eos-of tally recs n s =
     record {
       expr-arena = arena-of recs (s .line) (s .off) n;
       revisit-cache = cache-of (s .cache);
-      struct-field-ordering = s .field;
-      internally-observed = s .observed;
-      tally = s .tally;
+      struct-field-ordering = s .own .field;
+      internally-observed = s .own .observed;
+      tally = looks-more (s .own .looks) tally;
     }
 
 -- The base records ---------------------------------------------------------------------------------------------------------------
@@ -46,6 +43,11 @@ eos-of recs n s =
 -- every child is below m
 pub record Falls (m : ℕ) (children : List ℕ) : Type 0 where
   pub child : (k : ℕ) → k < length children → getD children k 0 < m
+
+-- the least number that every child is below
+unfoldable pub above : List ℕ → ℕ
+above [] = 0
+above (c ∷ cs) = suc c + (above cs - suc c)
 
 abbrev pub sorts : AExpr → Bool
 sorts kind = same-aexpr kind AExpr.Sort || same-aexpr kind AExpr.SortBy

@@ -1,4 +1,5 @@
 -- The rows of the table after the looks along the children.
+use mathlib.Core.Path.{_≡_}
 use Prim.Native.Nat.{ℕ}
 use mathlib.Core.Bool.{Bool, true, _&&_, _||_, not}
 use mathlib.Core.List.{List, [], _∷_}
@@ -7,7 +8,9 @@ use Rattle.plan.specs.declared.orders.ExprOrderAcc.{ExprOrderAcc}
 use Rattle.plan.specs.declared.orders.ObservableOrders.{ObservableOrders}
 use Rattle.plan.specs.Lists.{if_then_else_}
 use Rattle.plan.specs.FunctionFlags.{observes-input-order, terminates-input-order, non-order-producing}
-use Rattle.plan.specs.Orders.{∅, INDEPENDENT, _∪_, is-empty, single}
+use Rattle.plan.specs.Kinds.{aexpr}
+use Rattle.plan.specs.Sheet.{Expr}
+use Rattle.plan.specs.Orders.{∅, INDEPENDENT, _∪_, is-empty, no-orders, single}
 use Rattle.plan.specs.Look as look
 use Rattle.expr.specs.declared.after.After.{After}
 use Rattle.expr.specs.declared.after.Output.{Output}
@@ -26,6 +29,10 @@ after-of v = look.twice (v .observes) (v .again) (v .answer) (output-of (v .answ
 -- the answers that a record reads
 abbrev pub answers : Seen → List ObservableOrders
 answers x = x .first ∷ x .second ∷ x .third ∷ []
+
+-- r is the answer of a record without children, whose kind has the number k
+pub record Leaf (k : ℕ) (scalar : Bool) (field r : ObservableOrders) : Type 0 where
+  pub is : (e : Expr) (allow : Bool) → e .scalar ≡ scalar → look.after e allow field [] no-orders (aexpr k) ≡ look.plain r
 
 -- The rows with a second look, over what they read -------------------------------------------------------------------------------
 

@@ -1,9 +1,10 @@
 // What a record does once its children have answered, by its kind.
 ghost use mathlib.Core.Path.{_≡_};
+ghost use Prim.Native.Nat.{_<_};
 ghost use Rattle.plan.specs.declared.orders.ObservableOrders.{ObservableOrders};
 ghost use Rattle.plan.specs.Look.{twice, once, plain, after, function-output};
 ghost use Rattle.expr.specs.Record.{record-of};
-ghost use Rattle.expr.specs.Tables.{output-of, after-of, ternary-output, projected-row, filter-row, ternary-row, function-row, answers};
+ghost use Rattle.expr.specs.Tables.{output-of, after-of, ternary-output, projected-row, filter-row, ternary-row, function-row, answers, Leaf};
 use crate::record::ExprRecord;
 use crate::record::first_child;
 use crate::seen::Seen;
@@ -219,5 +220,19 @@ impl After {
             AExpr::Implode => After::once(pick(set, o0, O::EMPTY), O::EMPTY, !set | o0.is_empty()),
             AExpr::AggGroups => After::once(o0, o0.union(O::INDEPENDENT), true),
         }
+    }
+}
+
+// The answer of a record without children, of one of the first five kinds.
+pub fn leaf(kind: u8, scalar: bool, field: O) -> O
+    requires { ⌜ kind < 5 ⌝ }
+    ensures { λ r. ⌜ Leaf kind scalar field r ⌝ }
+{
+    match kind {
+        0 => O::COLUMN,
+        1 => pick(scalar, O::EMPTY, O::INDEPENDENT),
+        2 => O::INDEPENDENT,
+        3 => field,
+        _ => O::EMPTY,
     }
 }

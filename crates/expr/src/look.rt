@@ -13,9 +13,12 @@ ghost use Rattle.plan.specs.declared.aexpr.AExpr.{AExpr};
 ghost use Rattle.expr.specs.Tables.{after-of};
 ghost use Rattle.expr.specs.Record.{record-of, Shaped};
 ghost use Rattle.expr.specs.State.{state, preserves, is-replaced-line, Readable};
-ghost use Rattle.expr.specs.Contract.{walked, Ended, LookAsks, LookGives, AlongAsks, AlongGives};
+ghost use Rattle.expr.specs.Eos.{own-of, with-field};
+ghost use Rattle.expr.specs.Contract.{walked, Ended, LookAsks, LookGives, AgainAsks, AgainGives, AlongAsks, AlongGives};
 use crate::after::After;
+use crate::after::leaf;
 use crate::before::before_of;
+use crate::eos::Eos;
 use crate::record::ExprRecord;
 use crate::record::child_of;
 use crate::record::expr_of;
@@ -26,21 +29,6 @@ use crate::seen::Seen;
 use plan::aexpr::AExpr;
 use plan::looks::Before;
 use plan::orders::ObservableOrders;
-use plan::tally::Tally;
-use tally::looked;
-
-// What the looks of one visit share: ExprOrderSimplifier. Its own fields go by value. Lent to it, as in the Rust, are the
-// arena and the revisit_cache: `line` has the base record that each line holds now, and `off` whether its Implode was
-// switched off.
-pub struct Eos {
-    pub tally: Tally,
-    // struct_field_ordering
-    pub field: ObservableOrders,
-    // internally_observed
-    pub observed: ObservableOrders,
-    // Of the last look.
-    pub answer: ObservableOrders,
-}
 
 pub struct Walk {
     pub state: Eos,
@@ -99,11 +87,14 @@ fn pick_byte(b: bool, x: u8, y: u8) -> u8
     if b { x } else { y }
 }
 
-// Is the i-th child the first of a StructEval? The fields have its order.
-fn enters_struct(kind: AExpr, i: u8) -> bool
-    ensures { λ r. ⌜ r ≡ (eqb i 0 && same-aexpr kind AExpr.StructEval) ⌝ }
+// The state after the i-th child's answer: the fields of a StructEval have the order of its first child.
+fn enter_struct(s: Eos, kind: AExpr, i: u8) -> Eos
+    ensures { λ r. ⌜ own-of r ≡ with-field (if eqb i 0 && same-aexpr kind AExpr.StructEval then own-of s .answer else own-of s .field) (own-of s) ⌝ }
 {
-    (i == 0) & same(kind, AExpr::StructEval)
+    if (i == 0) & same(kind, AExpr::StructEval) {
+        return s.with_field(s.answer());
+    }
+    s
 }
 
 // Is de-ordering allowed in the i-th look? Only the first has a mode of its own.
@@ -113,7 +104,8 @@ fn mode(b: Before, i: u8) -> bool
     if i == 0 { b.first } else { false }
 }
 
-// The end of a look at p, whose record was e: o the answer, field the struct's field before it, first the first child's answer.
+// The end of a look at p, whose record was e and whose answer s has: field the struct's field before it, first the first
+// child's answer.
 fn look_ended(
     off: &mut [bool; 128],
     cache: &mut [u8; 128],
@@ -121,25 +113,20 @@ fn look_ended(
     p: usize,
     e: ExprRecord,
     v: After,
-    o: ObservableOrders,
     field: ObservableOrders,
     first: ObservableOrders,
 ) -> Eos
     requires { ⌜ (p < 128) × (length (now off) ≡ 128) × (length (now cache) ≡ 128) ⌝ }
-    ensures { λ r. ⌜ ((line : List ℕ) → Ended (state line (now (off .entry)) (now (cache .entry)) s) p (record-of e) (after-of v) o field first (state line (now (off .exit)) (now (cache .exit)) r)) ⌝ }
+    ensures { λ r. ⌜ ((line : List ℕ) → Ended (state line (now (off .entry)) (now (cache .entry)) s) p (record-of e) (after-of v) field first (state line (now (off .exit)) (now (cache .exit)) r)) ⌝ }
 {
-    let mut t = s;
     let was = off[p];
     let entry = cache[p];
-    let before = t.observed;
-    let observes = v.observes;
-    let observed = before.union(observes);
-    t.field = field;
-    t.observed = observed;
+    let before = s.observed();
+    let observed = before.union(v.observes);
     off[p] = was | loses_order(e, first);
-    cache[p] = pick_byte(v.caches, packed(o), entry);
-    t.answer = o;
-    t
+    cache[p] = pick_byte(v.caches, packed(s.answer()), entry);
+    let t = s.with_observed(observed);
+    t.with_field(field)
 }
 
 // A look at p. allow: is de-ordering allowed?
@@ -156,18 +143,19 @@ pub fn look(
     requires { ⌜ LookAsks (now recs) n (state (now line) (now off) (now cache) s) p allow ⌝ }
     ensures { λ r. ⌜ LookGives (now (recs .entry)) n (state (now (line .entry)) (now (off .entry)) (now (cache .entry)) s) p allow (state (now (line .exit)) (now (off .exit)) (now (cache .exit)) r) ⌝ }
 {
-    let mut t = s;
-    let tally = t.tally;
-    t.tally = looked(tally);
+    let t = s.looked();
+    let field = t.field();
     let l = line[p];
+    let at = (l as usize) * 16;
+    let kind = recs[at];
+    if (kind < 5) & (recs[at + 12] == 0) {
+        return t.with_answer(leaf(kind, recs[at + 1] == 1, field));
+    }
     let entry = cache[p];
-    let field = t.field;
     let e = expr_of(recs, l, off[p]);
     let b = before_of(e, allow);
     if b.checks & (entry != 0) {
-        let o = unpacked(entry);
-        t.answer = o;
-        return t;
+        return t.with_answer(unpacked(entry));
     }
     if is_replaced(recs, line, e, allow) {
         let c = first_child(e) as usize;
@@ -177,27 +165,38 @@ pub fn look(
         off[p] = off1;
         return look(recs, line, off, cache, n, t, p, allow);
     }
-    let none = Seen::new();
-    if e.count == 0 {
-        let v = After::of(e, allow, field, none);
-        return look_ended(off, cache, t, p, e, v, v.answer, field, none.first);
-    }
-    let w = look_along(recs, line, off, cache, n, t, e, b, l, none, 0);
-    let u = w.state;
+    let w = look_along(recs, line, off, cache, n, t, e, b);
     let seen = w.seen;
     let v = After::of(e, allow, field, seen);
-    if v.again {
-        let node = seen.acc.last_ordered_node as usize;
-        let again = look(recs, line, off, cache, n, u, node, true);
-        let output = v.answer_again;
-        let o = output.of(v.answer, again.answer);
-        return look_ended(off, cache, again, p, e, v, o, field, seen.first);
-    }
-    look_ended(off, cache, u, p, e, v, v.answer, field, seen.first)
+    let node = seen.acc.last_ordered_node;
+    let u = look_again(recs, line, off, cache, n, w.state, v, node);
+    look_ended(off, cache, u, p, e, v, field, seen.first)
 }
 
-// A look along the children of e from the i-th on; each is below l.
-pub fn look_along(
+// The single ordered child once more, if v says so: with the answer of the record that v is of.
+fn look_again(
+    recs: &[u8; 2048],
+    line: &mut [u8; 128],
+    off: &mut [bool; 128],
+    cache: &mut [u8; 128],
+    n: usize,
+    s: Eos,
+    v: After,
+    node: u8,
+) -> Eos
+    requires { ⌜ AgainAsks (now recs) n (state (now line) (now off) (now cache) s) v node ⌝ }
+    ensures { λ r. ⌜ AgainGives (now (recs .entry)) n (state (now (line .entry)) (now (off .entry)) (now (cache .entry)) s) v node (state (now (line .exit)) (now (off .exit)) (now (cache .exit)) r) ⌝ }
+{
+    if v.again {
+        let again = look(recs, line, off, cache, n, s, node as usize, true);
+        let output = v.answer_again;
+        return again.with_answer(output.of(v.answer, again.answer()));
+    }
+    s.with_answer(v.answer)
+}
+
+// A look along the children of e.
+fn look_along(
     recs: &[u8; 2048],
     line: &mut [u8; 128],
     off: &mut [bool; 128],
@@ -206,37 +205,23 @@ pub fn look_along(
     s: Eos,
     e: ExprRecord,
     b: Before,
-    l: u8,
-    seen: Seen,
-    i: u8,
 ) -> Walk
-    requires { ⌜ AlongAsks (now recs) n (state (now line) (now off) (now cache) s) e b l seen i ⌝ }
-    ensures { λ r. ⌜ AlongGives (now (recs .entry)) n (state (now (line .entry)) (now (off .entry)) (now (cache .entry)) s) e b l seen i (walked (state (now (line .exit)) (now (off .exit)) (now (cache .exit)) (r .state)) (r .seen)) ⌝ }
+    requires { ⌜ AlongAsks (now recs) n (state (now line) (now off) (now cache) s) e b ⌝ }
+    ensures { λ r. ⌜ AlongGives (now (recs .entry)) n (state (now (line .entry)) (now (off .entry)) (now (cache .entry)) s) e b (walked (state (now (line .exit)) (now (off .exit)) (now (cache .exit)) (r .state)) (r .seen)) ⌝ }
 {
-    let c = child_of(e, b.turned, i);
-    let mut t = look(recs, line, off, cache, n, s, c as usize, mode(b, i));
-    let o = t.answer;
+    let mut t = s;
+    let mut seen = Seen::new();
     let kind = e.kind;
-    if enters_struct(kind, i) {
-        t.field = o;
+    let mut i: u8 = 0;
+    while i < e.count {
+        let c = child_of(e, b.turned, i);
+        let u = look(recs, line, off, cache, n, t, c as usize, mode(b, i));
+        seen = seen.add(u.answer(), c, i);
+        t = enter_struct(u, kind, i);
+        i = i + 1;
     }
-    if i + 1 == e.count {
-        return Walk {
-            state: t,
-            seen: seen.add(o, c, i),
-        };
+    Walk {
+        state: t,
+        seen: seen,
     }
-    look_along(
-        recs,
-        line,
-        off,
-        cache,
-        n,
-        t,
-        e,
-        b,
-        l,
-        seen.add(o, c, i),
-        i + 1,
-    )
 }

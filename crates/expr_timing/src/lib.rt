@@ -11,7 +11,6 @@ use expr::projected::simplify_projected_exprs;
 use expr::start::none_off;
 use expr::start::own_lines;
 use plan::sizes::size_2048;
-use plan::tally::Tally;
 
 // The looks at the list of the root alone, from the state that a run starts with.
 #[no_mangle]
@@ -28,13 +27,7 @@ pub extern "C" fn list_looks(
     let mut line = own_lines();
     let mut off = none_off();
     let mut cache: [u8; 128] = [0; 128];
-    let start = expr_order_simplifier(
-        &mut cache,
-        Tally {
-            visits: 0,
-            looks: 0,
-        },
-    );
+    let start = expr_order_simplifier();
     let s = simplify_projected_exprs(
         recs,
         &mut line,
@@ -46,6 +39,5 @@ pub extern "C" fn list_looks(
         1,
         allow_deordering_top,
     );
-    let tally = s.tally;
-    tally.looks
+    s.looks()
 }

@@ -15,7 +15,7 @@ use Rattle.plan.specs.Faults.{named}
 use Rattle.plan.specs.Graph.{Edge, graph, sinks, is-cache}
 use Rattle.plan.specs.Visit.{is-into, no-edge}
 use Rattle.storage.specs.Stored.{stored-steps, Step-formed}
-use Rattle.storage.specs.Edges.{In-a-row}
+use Rattle.storage.specs.Edges.{stored-edge, In-a-row}
 use Rattle.plan.proofs.Booleans.{differ, equal}
 use Rattle.plan.proofs.Counts.{false-of, true-of, sum-reverse, times-same, times-other, same-number, only}
 use Rattle.claims.specs.Plan.{Plan}
@@ -26,7 +26,7 @@ use Rattle.claims.proofs.Reached.{followed-le}
 use Rattle.claims.proofs.Hits.{hits-named}
 use Rattle.claims.proofs.Visits.{length-numbered}
 use Rattle.claims.proofs.Places.{opened}
-use Rattle.ir_graph.specs.Edges.{made, edges-of}
+use Rattle.ir_graph.specs.Edges.{made, made-edges}
 use Rattle.ir_graph.proofs.Linking.{length-edges}
 use Rattle.ir_graph.proofs.There.{edge-there}
 use Rattle.ir_graph.proofs.Selected.{select-append, passes-in, passes-only}
@@ -216,14 +216,15 @@ module _ (bytes : List ℕ) (n : ℕ) (small : n ≤ 32) (plan : Plan (stored-st
 
 -- Where they are stored ----------------------------------------------------------------------------------------------------------
 
-module _ (ps : List Step) (c s p firsts : List ℕ) (e m : ℕ) (r : In-row ps (edges-of c s p e) m (getD firsts m 0)) where
+module _ (ps : List Step) (c s p firsts : List ℕ) (e m : ℕ) (r : In-row ps (made-edges c s p e) m (getD firsts m 0)) where
   abbrev es : List Edge
-  es = edges-of c s p e
+  es = made-edges c s p e
 
   abbrev many : ℕ
   many = length (step-at ps m .inputs)
 
   into-at : (k : ℕ) → k < e → is-into m (getD es k no-edge) ≡ eqb (getD c k 0) m
+  unfolding stored-edge
   into-at k h = ap (is-into m) (edge-there c s p e k h)
 
   in-run : (k : ℕ) → k < e → getD c k 0 ≡ m → (getD firsts m 0 ≤ k) × (k < getD firsts m 0 + many)

@@ -2,8 +2,11 @@
 use mathlib.Core.Path.{_≡_, sym, ap, _∙_}
 use Prim.Native.Nat.{ℕ, zero, suc, _+_, _≤_, _<_}
 use native.Mathlib.Omega.{arith}
-use mathlib.Core.List.{List, List·Memᴰ}
-use mathlib.Core.Option.{some}
+use mathlib.Core.Bool.{Bool, true, false}
+use mathlib.Core.List.{List, [], List·Memᴰ}
+use mathlib.Core.Option.{Option, none, some}
+use lib.Dec.{eqb}
+use Rattle.plan.specs.Lists.{if_then_else_}
 use lib.ListN.{length, getD, take, length-take}
 use lib.Seq.{getD-take}
 use Rattle.plan.specs.Lists.{times}
@@ -18,23 +21,32 @@ use Rattle.claims.proofs.StepTable.{has-inputs}
 use Rattle.claims.specs.Plan.{Plan}
 use Rattle.claims.proofs.Plans.{root-there, input-there}
 use Rattle.claims.proofs.MergedPlan.{ordered-own}
-use Rattle.ir_graph.specs.Edges.{made, edges-of}
+use Rattle.storage.specs.Edges.{producer-of, stored-edge, stored-edges}
+use Rattle.ir_graph.specs.Edges.{made-edges}
 use Rattle.ir_graph.proofs.Linking.{length-edges}
 
-pub edge-there : (c s p : List ℕ) (e k : ℕ) → k < e → getD (edges-of c s p e) k no-edge ≡ made (getD c k 0) (getD s k 0) (getD p k 0)
-unfolding edges-of
-edge-there c s p e k h = table-at (λ j. made (getD c j 0) (getD s j 0) (getD p j 0)) e k no-edge h
+pub edge-there : (c s p : List ℕ) (e k : ℕ) → k < e → getD (made-edges c s p e) k no-edge ≡ stored-edge c s p [] k
+unfolding stored-edges
+edge-there c s p e k h = table-at (stored-edge c s p []) e k no-edge h
 
-module _ (ps : List Step) (c s p : List ℕ) (e : ℕ) (edges : edges-of c s p e ≡ graph ps .1) where
+produced : (x y : ℕ) → producer-of x ≡ some y → x ≡ y
+produced x y = by (eqb x 255)
+  where
+    by : (b : Bool) → _≡_ {A = Option ℕ} (if b then none else some x) (some y) → x ≡ y
+    by true e = let z : _≡_ {A = ℕ} 0 1 = cc in absurd (omega arith)
+    by false e = same-some e
+
+module _ (ps : List Step) (c s p : List ℕ) (e : ℕ) (edges : made-edges c s p e ≡ graph ps .1) where
   pub length-graph : length (graph ps .1) ≡ e
   length-graph = ap length (sym edges) ∙ length-edges c s p e
 
-  pub edge-at : (k : ℕ) → k < e → getD (graph ps .1) k no-edge ≡ made (getD c k 0) (getD s k 0) (getD p k 0)
+  pub edge-at : (k : ℕ) → k < e → getD (graph ps .1) k no-edge ≡ stored-edge c s p [] k
   edge-at k h = rw (← edges) (edge-there c s p e k h)
 
   module _ (plan : Plan ps) (k : ℕ) (h : k < e) where
     -- an edge comes from the input that its slot names
-    from-input : (getD s k 0 < length (step-at ps (getD c k 0) .inputs)) × (some (getD p k 0) ≡ some (getD (step-at ps (getD c k 0) .inputs) (getD s k 0) 0))
+    from-input : (getD s k 0 < length (step-at ps (getD c k 0) .inputs)) × (producer-of (getD p k 0) ≡ some (getD (step-at ps (getD c k 0) .inputs) (getD s k 0) 0))
+    unfolding stored-edge
     from-input = rw (edge-at k h) at (ordered-own ps plan .made (getD (graph ps .1) k no-edge) (mem-at (graph ps .1) k no-edge (omega (arith, length-graph))))
 
     pub slot-there : getD s k 0 < length (step-at ps (getD c k 0) .inputs)
@@ -46,7 +58,7 @@ module _ (ps : List Step) (c s p : List ℕ) (e : ℕ) (edges : edges-of c s p e
     pub producer-there : getD p k 0 < length ps
     producer-there =
         let inputs = step-at ps (getD c k 0) .inputs in
-        rw (same-some (from-input .1)) (input-there ps plan (getD c k 0) (getD inputs (getD s k 0) 0) (mem-at inputs (getD s k 0) 0 slot-there))
+        rw (produced (getD p k 0) (getD inputs (getD s k 0) 0) (from-input .1)) (input-there ps plan (getD c k 0) (getD inputs (getD s k 0) 0) (mem-at inputs (getD s k 0) 0 slot-there))
 
 module _ (ps : List Step) (plan : Plan ps) where
   -- a root or an input

@@ -6,12 +6,12 @@ use lib.ListN.{length, getD, take}
 use Rattle.plan.specs.Sheet.{Step, step-at}
 use Rattle.plan.specs.Graph.{graph}
 use Rattle.storage.specs.Edges.{In-rows}
-use Rattle.ir_graph.specs.Edges.{edges-of}
+use Rattle.ir_graph.specs.Edges.{made-edges}
 use Rattle.ir_graph.specs.declared.ir_graph.Graph.{Graph}
 
 pub record Built (ps : List Step) (places consumer slot producer in-edges : List ℕ) (g : Graph) : Type 0 where
   pub places-are : take (g .places) places ≡ graph ps .0
-  pub edges-are : edges-of consumer slot producer (g .edges) ≡ graph ps .1
+  pub edges-are : made-edges consumer slot producer (g .edges) ≡ graph ps .1
   pub few-places : g .places ≤ 288
   pub few-edges : g .edges ≤ 256
   -- what is placed and linked are lines of the sheet

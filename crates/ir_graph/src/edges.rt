@@ -1,9 +1,9 @@
 // The edges of one step, numbered in a row as they are made.
 ghost use mathlib.Core.Path.{_≡_};
 ghost use mathlib.Core.List.{[], _∷_, _++_};
-ghost use Prim.Native.Nat.{_+_, _-_, _≤_, _<_};
-ghost use lib.ListN.{take, drop};
-ghost use Rattle.ir_graph.specs.Edges.{made, edges-of, Linked};
+ghost use Prim.Native.Nat.{ℕ, _+_, _-_, _≤_, _<_};
+ghost use lib.ListN.{getD, take, drop};
+ghost use Rattle.ir_graph.specs.Edges.{made, made-edges, Linked};
 use plan::sizes::size_256;
 use plan::sizes::size_288;
 
@@ -17,8 +17,8 @@ fn make_edge(
     k: u8,
     input: u8,
 )
-    requires { ⌜ e < 256 ⌝ }
-    ensures { λ r. ⌜ edges-of (now (consumer .exit)) (now (slot .exit)) (now (producer .exit)) (e + 1) ≡ edges-of (now (consumer .entry)) (now (slot .entry)) (now (producer .entry)) e ++ (made step k input ∷ []) ⌝ }
+    requires { ⌜ (e < 256) × (input < 255) ⌝ }
+    ensures { λ r. ⌜ made-edges (now (consumer .exit)) (now (slot .exit)) (now (producer .exit)) (e + 1) ≡ made-edges (now (consumer .entry)) (now (slot .entry)) (now (producer .entry)) e ++ (made step k input ∷ []) ⌝ }
 {
     size_256(consumer);
     size_256(slot);
@@ -41,6 +41,7 @@ pub fn link(
 ) -> usize
     requires { ⌜ (start ≤ end) × (end ≤ start + 8) × (end ≤ 288) ⌝ }
     requires { ⌜ edges + (end - start) ≤ 256 ⌝ }
+    requires { ⌜ ((k : ℕ) → start ≤ k → k < end → getD (now places) k 0 < 255) ⌝ }
     ensures { λ r. ⌜ Linked step (drop start (take end (now (places .entry)))) (now (consumer .entry)) (now (slot .entry)) (now (producer .entry)) edges (now (consumer .exit)) (now (slot .exit)) (now (producer .exit)) r ⌝ }
 {
     size_288(places);

@@ -1,5 +1,5 @@
 -- A step's edges as a visit finds them, from those into it and those out of it.
-use mathlib.Core.Path.{_≡_, ap, _∙_}
+use mathlib.Core.Path.{_≡_}
 use Prim.Native.Nat.{ℕ, _+_, _<_}
 use native.Mathlib.Omega.{arith}
 use mathlib.Core.Bool.{Bool, false}
@@ -7,11 +7,11 @@ use mathlib.Core.List.{List}
 use lib.Dec.{ltb}
 use lib.ListN.{getD}
 use Rattle.plan.specs.Lists.{if_then_else_, all?}
-use Rattle.plan.specs.declared.rules.Around.{Around}
 use Rattle.plan.specs.Visit.{around, outs-unordered}
 use Rattle.claims.specs.Demand3.{leaving-among}
 use Rattle.node_rules.specs.declared.around.InEdges.{InEdges}
-use Rattle.node_rules.specs.Held.{held-edges, In-run, run-marks}
+use Rattle.storage.specs.Edges.{stored-edges}
+use Rattle.node_rules.specs.Held.{In-run, run-marks}
 use Rattle.node_rules.proofs.InEdges.{ins-are, mark-of}
 use Rattle.node_rules.proofs.OutEdges.{out-is}
 
@@ -19,11 +19,11 @@ module _ (consumer slot producer : List ℕ) (unordered : List Bool) (edges n : 
   abbrev is-unordered : ℕ → ℕ → Bool
   is-unordered k to = if ltb k to then getD unordered k false else false
 
-  pub around-is : (k : ℕ) → k ≡ leaving-among n (held-edges consumer slot producer unordered edges)
+  pub around-is : (k : ℕ) → k ≡ leaving-among n (stored-edges consumer slot producer unordered edges)
       → {ins in0 in1 out outs : Bool} → ins ≡ all? (λ b. b) (run-marks unordered d) → in0 ≡ is-unordered (d .from) (d .to)
       → in1 ≡ is-unordered (d .from + 1) (d .to) → out ≡ is-unordered k edges
-      → outs ≡ outs-unordered n (held-edges consumer slot producer unordered edges)
-      → record { ins = ins; in0 = in0; in1 = in1; out = out; outs = outs } ≡ around n (held-edges consumer slot producer unordered edges)
+      → outs ≡ outs-unordered n (stored-edges consumer slot producer unordered edges)
+      → record { ins = ins; in0 = in0; in1 = in1; out = out; outs = outs } ≡ around n (stored-edges consumer slot producer unordered edges)
   unfolding around
   around-is k leaves a b c e f =
       let first : d .from + 0 ≡ d .from = omega arith in

@@ -1,7 +1,7 @@
 -- The edges after they are loosened and relinked, from what the loops do to the arrays.
 use mathlib.Core.Path.{_≡_, refl, sym, ap, ap₂, _∙_}
 use mathlib.Core.Logic.{_⊎_, inl, inr}
-use Prim.Native.Nat.{ℕ, zero, suc, _≤_, _<_}
+use Prim.Native.Nat.{ℕ, _≤_, _<_}
 use native.Mathlib.Omega.{arith}
 use native.Mathlib.Decide.{decLt}
 use mathlib.Core.Bool.{Bool, true, false, _&&_, _||_, not}
@@ -11,23 +11,23 @@ use lib.Dec.{eqb}
 use lib.ListN.{getD}
 use Rattle.plan.specs.Lists.{if_then_else_}
 use Rattle.plan.specs.Graph.{Edge}
-use Rattle.storage.specs.Stored.{table}
 use Rattle.storage.proofs.Laws.{same-table}
 use Rattle.plan.specs.declared.rules.Loosened.{Loosened}
 use Rattle.plan.specs.Visit.{is-into, is-out-of, loosened, relinked}
 use Rattle.node_rules.specs.declared.around.InEdges.{InEdges}
-use Rattle.node_rules.specs.Held.{producer-of, held-edge, held-edges, In-run, ins-of, outs-of, handed-on, cut-off}
+use Rattle.storage.specs.Edges.{producer-of, stored-edge, stored-edges}
+use Rattle.node_rules.specs.Held.{In-run, ins-of, outs-of, handed-on, cut-off}
 use Rattle.node_rules.proofs.EdgeLaws.{out-of-held, map-table, Changed}
 use Rattle.node_rules.proofs.InEdges.{inside, outside}
 
 -- edges that are changed one by one
 each-edge : (c s p p′ : List ℕ) (u u′ : List Bool) (edges : ℕ) (change : Edge → Edge)
-    → ((j : ℕ) → j < edges → held-edge c s p′ u′ j ≡ change (held-edge c s p u j))
-    → held-edges c s p′ u′ edges ≡ map change (held-edges c s p u edges)
-unfolding held-edges
+    → ((j : ℕ) → j < edges → stored-edge c s p′ u′ j ≡ change (stored-edge c s p u j))
+    → stored-edges c s p′ u′ edges ≡ map change (stored-edges c s p u edges)
+unfolding stored-edges
 each-edge c s p p′ u u′ edges change h =
-    same-table (held-edge c s p′ u′) (λ j. change (held-edge c s p u j)) edges h
-    ∙ sym (map-table change (held-edge c s p u) 0 edges)
+    same-table (stored-edge c s p′ u′) (λ j. change (stored-edge c s p u j)) edges h
+    ∙ sym (map-table change (stored-edge c s p u) 0 edges)
 
 map-twice : {A : Type 0} (f g h : A → A) → ((x : A) → f (g x) ≡ h x) → (l : List A) → map f (map g l) ≡ map h l
 map-twice f g h e [] = refl
@@ -109,8 +109,8 @@ module _ (consumer slot producer : List ℕ) (old new : List Bool) (edges n : �
   -- the edges into n, which are the run d
   pub ins-loosened : (d : InEdges) (l : Loosened) (i : ℕ) → d .to ≤ i → i ≤ d .to → In-run consumer edges n d
       → Changed false (λ j. getD old j false || (if eqb (getD slot j 0) 0 then l .in0 else l .later)) old new (d .from) i
-      → held-edges consumer slot producer new edges ≡ map (loosened n (ins-of l)) (held-edges consumer slot producer old edges)
-  unfolding held-edge
+      → stored-edges consumer slot producer new edges ≡ map (loosened n (ins-of l)) (stored-edges consumer slot producer old edges)
+  unfolding stored-edge
   ins-loosened d l i a b run c = each-edge consumer slot producer producer old new edges (loosened n (ins-of l)) (λ j h. by j h (where-in d j))
     where
       edge : ℕ → Bool → Edge
@@ -130,20 +130,20 @@ module _ (consumer slot producer : List ℕ) (old new : List Bool) (edges n : �
 
       at : (j : ℕ) (i : Bool) → eqb (getD consumer j 0) n ≡ i
           → getD new j false ≡ (if i then getD old j false || (if eqb (getD slot j 0) 0 then l .in0 else l .later) else getD old j false)
-          → held-edge consumer slot producer new j ≡ loosened n (ins-of l) (held-edge consumer slot producer old j)
+          → stored-edge consumer slot producer new j ≡ loosened n (ins-of l) (stored-edge consumer slot producer old j)
       at j i e v =
           ap (edge j)
-          (v ∙ rw (← e) (mark (eqb (getD consumer j 0) n) (is-out-of n (held-edge consumer slot producer old j)) (getD old j false) (if eqb (getD slot j 0) 0 then l .in0 else l .later)))
+          (v ∙ rw (← e) (mark (eqb (getD consumer j 0) n) (is-out-of n (stored-edge consumer slot producer old j)) (getD old j false) (if eqb (getD slot j 0) 0 then l .in0 else l .later)))
 
       by : (j : ℕ) → j < edges → ((d .from ≤ j) × (j < d .to)) ⊎ ((j < d .from) ⊎ (d .to ≤ j))
-          → held-edge consumer slot producer new j ≡ loosened n (ins-of l) (held-edge consumer slot producer old j)
+          → stored-edge consumer slot producer new j ≡ loosened n (ins-of l) (stored-edge consumer slot producer old j)
       by j h (inl x) = at j true (inside consumer slot producer old edges n d run j (x .0) (x .1)) (c .done j (x .0) (omega (arith, x .1)))
       by j h (inr x) = at j false (outside consumer slot producer old edges n d run j h x) (unchanged false _ old new d i j a b c x)
 
   -- those out of it
   pub outs-loosened : n < 32 → (i : ℕ) → edges ≤ i → Changed false (λ j. getD old j false || eqb (getD producer j 0) n) old new 0 i
-      → held-edges consumer slot producer new edges ≡ map (loosened n (outs-of true)) (held-edges consumer slot producer old edges)
-  unfolding held-edge
+      → stored-edges consumer slot producer new edges ≡ map (loosened n (outs-of true)) (stored-edges consumer slot producer old edges)
+  unfolding stored-edge
   outs-loosened small i a c =
       each-edge consumer slot producer producer old new edges (loosened n (outs-of true))
       (λ j h. at j (c .done j (omega arith) (omega arith)) (out-of-held consumer slot producer old j n small))
@@ -154,8 +154,8 @@ module _ (consumer slot producer : List ℕ) (old new : List Bool) (edges n : �
       mark i false false z = rw (not-in i z)
 
       at : (j : ℕ) → getD new j false ≡ (getD old j false || eqb (getD producer j 0) n)
-          → is-out-of n (held-edge consumer slot producer old j) ≡ eqb (getD producer j 0) n
-          → held-edge consumer slot producer new j ≡ loosened n (outs-of true) (held-edge consumer slot producer old j)
+          → is-out-of n (stored-edge consumer slot producer old j) ≡ eqb (getD producer j 0) n
+          → stored-edge consumer slot producer new j ≡ loosened n (outs-of true) (stored-edge consumer slot producer old j)
       at j v o =
           ap (λ (u : Bool). record { consumer = getD consumer j 0; slot = getD slot j 0; producer = producer-of (getD producer j 0); unordered = u })
           (v ∙ rw o (mark (eqb (getD consumer j 0) n) (eqb (getD producer j 0) n) (getD old j false) (eqb (getD slot j 0) 0)))
@@ -180,8 +180,8 @@ both-relinked n from ds = map-twice (cut-off n) (handed-on n from) (relinked n f
 module _ (consumer slot producer producer′ : List ℕ) (edges n : ℕ) where
   pub outs-handed-on : n < 32 → (unordered : List Bool) (from i : ℕ) → edges ≤ i
       → Changed 0 (λ j. if eqb (getD producer j 0) n then from else getD producer j 0) producer producer′ 0 i
-      → held-edges consumer slot producer′ unordered edges ≡ map (handed-on n (producer-of from)) (held-edges consumer slot producer unordered edges)
-  unfolding held-edge
+      → stored-edges consumer slot producer′ unordered edges ≡ map (handed-on n (producer-of from)) (stored-edges consumer slot producer unordered edges)
+  unfolding stored-edge
   outs-handed-on small unordered from i a c =
       each-edge consumer slot producer producer′ unordered unordered edges (handed-on n (producer-of from))
       (λ j h. at j (c .done j (omega arith) (omega arith)) (out-of-held consumer slot producer unordered j n small))
@@ -194,26 +194,26 @@ module _ (consumer slot producer producer′ : List ℕ) (edges n : ℕ) where
       by j false = refl
 
       at : (j : ℕ) → getD producer′ j 0 ≡ (if eqb (getD producer j 0) n then from else getD producer j 0)
-          → is-out-of n (held-edge consumer slot producer unordered j) ≡ eqb (getD producer j 0) n
-          → held-edge consumer slot producer′ unordered j ≡ handed-on n (producer-of from) (held-edge consumer slot producer unordered j)
+          → is-out-of n (stored-edge consumer slot producer unordered j) ≡ eqb (getD producer j 0) n
+          → stored-edge consumer slot producer′ unordered j ≡ handed-on n (producer-of from) (stored-edge consumer slot producer unordered j)
       at j v o = rw o (ap (edge j) v ∙ by j (eqb (getD producer j 0) n))
 
   pub ins-cut-off : (old new : List Bool) (d : InEdges) (i : ℕ) → d .to ≤ i → i ≤ d .to → In-run consumer edges n d
       → Changed 0 (λ _. 255) producer producer′ (d .from) i → Changed false (λ _. true) old new (d .from) i
-      → held-edges consumer slot producer′ new edges ≡ map (cut-off n) (held-edges consumer slot producer old edges)
-  unfolding held-edge
+      → stored-edges consumer slot producer′ new edges ≡ map (cut-off n) (stored-edges consumer slot producer old edges)
+  unfolding stored-edge
   ins-cut-off old new d i a b run c e = each-edge consumer slot producer producer′ old new edges (cut-off n) (λ j h. by j h (where-in d j))
     where
       edge : ℕ → ℕ → Bool → Edge
       edge j p u = record { consumer = getD consumer j 0; slot = getD slot j 0; producer = producer-of p; unordered = u }
 
       at : (j p : ℕ) (u i : Bool) → eqb (getD consumer j 0) n ≡ i → getD producer′ j 0 ≡ p → getD new j false ≡ u
-          → edge j p u ≡ (if i then edge j 255 true else held-edge consumer slot producer old j)
-          → held-edge consumer slot producer′ new j ≡ cut-off n (held-edge consumer slot producer old j)
+          → edge j p u ≡ (if i then edge j 255 true else stored-edge consumer slot producer old j)
+          → stored-edge consumer slot producer′ new j ≡ cut-off n (stored-edge consumer slot producer old j)
       at j p u i t v w z = ap₂ (edge j) v w ∙ z ∙ rw t
 
       by : (j : ℕ) → j < edges → ((d .from ≤ j) × (j < d .to)) ⊎ ((j < d .from) ⊎ (d .to ≤ j))
-          → held-edge consumer slot producer′ new j ≡ cut-off n (held-edge consumer slot producer old j)
+          → stored-edge consumer slot producer′ new j ≡ cut-off n (stored-edge consumer slot producer old j)
       by j h (inl x) =
           at j 255 true true (inside consumer slot producer old edges n d run j (x .0) (x .1)) (c .done j (x .0) (omega (arith, x .1))) (e .done j (x .0) (omega (arith, x .1))) refl
       by j h (inr x) =

@@ -13,12 +13,12 @@ use lib.Seq.{getD-set-same, getD-set-other}
 use Rattle.plan.specs.Lists.{if_then_else_, all?}
 use Rattle.storage.specs.Stored.{table}
 use Rattle.plan.specs.Visit.{is-out-of}
-use Rattle.node_rules.specs.Held.{held-edge}
+use Rattle.storage.specs.Edges.{stored-edge}
 
 -- the producer 255 is no step's
 pub out-of-held : (consumer slot producer : List ℕ) (unordered : List Bool) (k n : ℕ) → n < 32
-    → is-out-of n (held-edge consumer slot producer unordered k) ≡ eqb (getD producer k 0) n
-unfolding held-edge
+    → is-out-of n (stored-edge consumer slot producer unordered k) ≡ eqb (getD producer k 0) n
+unfolding stored-edge
 out-of-held consumer slot producer unordered k n h =
     by (eqb (getD producer k 0) 255) (λ t. eqb→eq (getD producer k 0) 255 t)
   where

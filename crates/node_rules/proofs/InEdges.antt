@@ -8,15 +8,15 @@ use borrow.Author.Tests.{eq-eqb, ne-eqb, lt-ltb, le-ltb}
 use mathlib.Core.Bool.{Bool, true, false, _&&_}
 use mathlib.Core.List.{List, [], _∷_, _++_, map, append-nil}
 use lib.Dec.{eqb, ltb}
-use lib.ListN.{length, getD, List·getD-eq-default}
+use lib.ListN.{getD, List·getD-eq-default}
 use Rattle.plan.specs.Lists.{if_then_else_, select, all?}
 use Rattle.plan.specs.Graph.{Edge}
 use Rattle.storage.specs.Stored.{table}
-use Rattle.storage.specs.Edges.{In-a-row}
 use Rattle.storage.proofs.Laws.{length-table, table-from-at, table-more}
 use Rattle.plan.specs.Visit.{is-into, in-edge, ins-unordered, no-edge}
 use Rattle.node_rules.specs.declared.around.InEdges.{InEdges}
-use Rattle.node_rules.specs.Held.{producer-of, held-edge, held-edges, In-run, run-marks}
+use Rattle.storage.specs.Edges.{producer-of, stored-edge, stored-edges, In-a-row}
+use Rattle.node_rules.specs.Held.{In-run, run-marks}
 use Rattle.node_rules.proofs.EdgeLaws.{map-table, all-last}
 
 -- Finding the run: each edge before `to` is one into n -----------------------------------------------------------------------------
@@ -103,7 +103,7 @@ module _ {A : Type 0} (p : A → Bool) (f : ℕ → A) where
 
 module _ (consumer slot producer : List ℕ) (unordered : List Bool) (edges n : ℕ) (d : InEdges) (run : In-run consumer edges n d) where
   abbrev edge : ℕ → Edge
-  edge = held-edge consumer slot producer unordered
+  edge = stored-edge consumer slot producer unordered
 
   pub inside : (j : ℕ) → d .from ≤ j → j < d .to → eqb (getD consumer j 0) n ≡ true
   inside j a b = eq-eqb (getD consumer j 0) n (run .all j a b)
@@ -111,21 +111,21 @@ module _ (consumer slot producer : List ℕ) (unordered : List Bool) (edges n : 
   pub outside : (j : ℕ) → j < edges → (j < d .from) ⊎ (d .to ≤ j) → eqb (getD consumer j 0) n ≡ false
   outside j h o = ne-eqb (getD consumer j 0) n (λ e. elim o [ inl x ↦ absurd (omega (arith, run .into j h e .0, x)) | inr x ↦ absurd (omega (arith, run .into j h e .1, x)) ])
 
-  selected : select (is-into n) (held-edges consumer slot producer unordered edges) ≡ table edge (d .from) (d .to - d .from)
-  unfolding held-edges held-edge
+  selected : select (is-into n) (stored-edges consumer slot producer unordered edges) ≡ table edge (d .from) (d .to - d .from)
+  unfolding stored-edges stored-edge
   selected = run-selected (is-into n) edge (d .from) (d .to) edges (run .order) (run .fits) (λ j h a b. inside j a b) outside
 
-  pub ins-are : ins-unordered n (held-edges consumer slot producer unordered edges) ≡ run-marks unordered d
-  unfolding ins-unordered held-edge
+  pub ins-are : ins-unordered n (stored-edges consumer slot producer unordered edges) ≡ run-marks unordered d
+  unfolding ins-unordered stored-edge
   ins-are = ap (map (λ (x : Edge). x .unordered)) selected ∙ map-table (λ (x : Edge). x .unordered) edge (d .from) (d .to - d .from)
 
-  pub first-in : d .from < d .to → producer-of (getD producer (d .from) 0) ≡ in-edge n (held-edges consumer slot producer unordered edges) .producer
-  unfolding in-edge held-edge
+  pub first-in : d .from < d .to → producer-of (getD producer (d .from) 0) ≡ in-edge n (stored-edges consumer slot producer unordered edges) .producer
+  unfolding in-edge stored-edge
   first-in h =
       let zero-more : d .from + 0 ≡ d .from = omega arith in
       rw (selected, table-from-at edge (d .from) (d .to - d .from) 0 no-edge (omega arith), zero-more)
 
-  pub no-first-in : d .to ≤ d .from → producer-of 255 ≡ in-edge n (held-edges consumer slot producer unordered edges) .producer
+  pub no-first-in : d .to ≤ d .from → producer-of 255 ≡ in-edge n (stored-edges consumer slot producer unordered edges) .producer
   unfolding in-edge table
   no-first-in h = let none : d .to - d .from ≡ 0 = omega arith in rw (selected, none)
 

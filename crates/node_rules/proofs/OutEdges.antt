@@ -1,7 +1,7 @@
 -- The edges out of a step are found by going through all edges.
 use mathlib.Core.Path.{_≡_, refl, sym, ap, ap₂, _∙_}
 use mathlib.Core.Logic.{_≢_}
-use Prim.Native.Nat.{ℕ, suc, _+_, _≤_, _<_}
+use Prim.Native.Nat.{ℕ, suc, _+_, _<_}
 use native.Mathlib.Omega.{arith}
 use native.Mathlib.Numerals.{add-one}
 use native.Mathlib.Decide.{decLt}
@@ -9,7 +9,7 @@ use borrow.Author.Tests.{eq-eqb, ne-eqb, lt-ltb, le-ltb}
 use mathlib.Core.Bool.{Bool, true, false, _&&_, _||_, not}
 use mathlib.Core.List.{List, [], _∷_, _++_}
 use lib.Dec.{eqb, ltb}
-use lib.ListN.{length, getD, drop, List·getD-eq-default}
+use lib.ListN.{getD, drop, List·getD-eq-default}
 use lib.Seq.{drop-cons, drop-length}
 use Rattle.plan.specs.Lists.{if_then_else_, all?, select}
 use Rattle.plan.specs.Graph.{Edge}
@@ -18,15 +18,15 @@ use Rattle.storage.proofs.Laws.{length-table, table-at, table-more}
 use Rattle.plan.specs.Visit.{is-out-of, no-edge, out-edge, outs-unordered}
 use Rattle.claims.specs.Demand3.{leaving-among}
 use Rattle.claims.proofs.Edges.{out-edge-at}
-use Rattle.node_rules.specs.Held.{held-edge, held-edges}
+use Rattle.storage.specs.Edges.{stored-edge, stored-edges}
 use Rattle.node_rules.proofs.EdgeLaws.{out-of-held, all-last}
 
 module _ (consumer slot producer : List ℕ) (unordered : List Bool) (edges n : ℕ) (small : n < 32) where
   abbrev edge : ℕ → Edge
-  edge = held-edge consumer slot producer unordered
+  edge = stored-edge consumer slot producer unordered
 
   abbrev ds : List Edge
-  ds = held-edges consumer slot producer unordered edges
+  ds = stored-edges consumer slot producer unordered edges
 
   -- The first of them: k edges were gone through, and none of them is one ------------------------------------------------------------
 
@@ -35,7 +35,7 @@ module _ (consumer slot producer : List ℕ) (unordered : List Bool) (edges n : 
 
   leaves : (k : ℕ) → k < edges → (b : Bool) → eqb (getD producer k 0) n ≡ b
       → leaving-among n (drop k ds) ≡ (if b then 0 else suc (leaving-among n (drop (k + 1) ds)))
-  unfolding held-edges leaving-among
+  unfolding stored-edges leaving-among
   leaves k h b e =
       rw (next, leaving-among, out-of-held consumer slot producer unordered k n small, e) (by b (leaving-among n (drop (k + 1) (table edge 0 edges))))
     where
@@ -58,7 +58,7 @@ module _ (consumer slot producer : List ℕ) (unordered : List Bool) (edges n : 
   leaves-later k h e v = omega (arith, v, leaves k h false (ne-eqb (getD producer k 0) n e))
 
   pub none-leaves : (k : ℕ) → k ≡ edges → Leaves-from k → k ≡ leaving-among n ds
-  unfolding held-edges leaving-among
+  unfolding stored-edges leaving-among
   none-leaves k i v =
       let last : drop k (table edge 0 edges) ≡ [] =
       ap (λ (j : ℕ). drop j (table edge 0 edges)) (i ∙ sym (length-table edge 0 edges)) ∙ drop-length (table edge 0 edges) in
@@ -67,7 +67,7 @@ module _ (consumer slot producer : List ℕ) (unordered : List Bool) (edges n : 
 
   -- is it unordered?
   pub out-is : (k : ℕ) → k ≡ leaving-among n ds → (if ltb k edges then getD unordered k false else false) ≡ out-edge n ds .unordered
-  unfolding held-edges held-edge
+  unfolding stored-edges stored-edge
   out-is k e = by (decLt k edges) ∙ ap (λ (x : Edge). x .unordered) (ap (λ (m : ℕ). getD ds m no-edge) e ∙ out-edge-at n ds)
     where
       by : Dec (k < edges) → (if ltb k edges then getD unordered k false else false) ≡ getD (table edge 0 edges) k no-edge .unordered
@@ -113,7 +113,7 @@ module _ (consumer slot producer : List ℕ) (unordered : List Bool) (edges n : 
   loose-none = refl
 
   pub loose-next : (k : ℕ) (r : Bool) → Loose-to k r → Loose-to (k + 1) (r && (getD unordered k false || not (eqb (getD producer k 0) n)))
-  unfolding held-edge
+  unfolding stored-edge
   loose-next k r v =
       ap₂ (λ (x o : Bool). x && (getD unordered k false || not o)) v (sym (out-of-held consumer slot producer unordered k n small))
       ∙ sym (ap (all? loose) one-more ∙ all-last loose (table edge 0 k) (edge k))
@@ -122,5 +122,5 @@ module _ (consumer slot producer : List ℕ) (unordered : List Bool) (edges n : 
       one-more = ap (table edge 0) (add-one k) ∙ table-more edge 0 k ∙ ap (λ (j : ℕ). table edge 0 k ++ (edge j ∷ [])) (omega arith)
 
   pub outs-are : (k : ℕ) (r : Bool) → k ≡ edges → Loose-to k r → r ≡ outs-unordered n ds
-  unfolding outs-unordered held-edges
+  unfolding outs-unordered stored-edges
   outs-are k r i v = v ∙ ap (λ (m : ℕ). all? loose (table edge 0 m)) i ∙ sym (all-selected (table edge 0 edges))

@@ -14,41 +14,41 @@ use Rattle.storage.proofs.Laws.{length-table, table-at}
 use Rattle.plan.specs.Visit.{no-edge, out-edge}
 use Rattle.claims.specs.Demand3.{leaving-among}
 use Rattle.claims.proofs.Edges.{out-edge-at}
-use Rattle.node_rules.specs.Held.{held-edge, held-edges}
+use Rattle.storage.specs.Edges.{stored-edge, stored-edges}
 
 module _ (consumer slot producer : List ℕ) (unordered : List Bool) (edges n k : ℕ)
-    (leaves : k ≡ leaving-among n (held-edges consumer slot producer unordered edges))
-    (loose : out-edge n (held-edges consumer slot producer unordered edges) .unordered ≡ true) where
+    (leaves : k ≡ leaving-among n (stored-edges consumer slot producer unordered edges))
+    (loose : out-edge n (stored-edges consumer slot producer unordered edges) .unordered ≡ true) where
   abbrev ds : List Edge
-  ds = held-edges consumer slot producer unordered edges
+  ds = stored-edges consumer slot producer unordered edges
 
   at-number : out-edge n ds ≡ getD ds k no-edge
   at-number = sym (out-edge-at n ds) ∙ ap (λ (m : ℕ). getD ds m no-edge) (sym leaves)
 
   -- there is such an edge
   pub edge-there : k < edges
-  unfolding held-edges
+  unfolding stored-edges
   edge-there = by (decLt k edges)
     where
       by : Dec (k < edges) → k < edges
       by (yes h) = h
       by (no h) =
           let none : getD ds k no-edge ≡ no-edge =
-          List·getD-eq-default ds no-edge (omega (arith, length-table (held-edge consumer slot producer unordered) 0 edges)) in
+          List·getD-eq-default ds no-edge (omega (arith, length-table (stored-edge consumer slot producer unordered) 0 edges)) in
           let clash : false ≡ true = sym (ap (λ (d : Edge). d .unordered) (at-number ∙ none)) ∙ loose in
           let z : _≡_ {A = ℕ} 0 1 = cc in
           absurd (omega arith)
 
-  edge-is : out-edge n ds ≡ held-edge consumer slot producer unordered k
-  unfolding held-edges
-  edge-is = at-number ∙ table-at (held-edge consumer slot producer unordered) edges k no-edge edge-there
+  edge-is : out-edge n ds ≡ stored-edge consumer slot producer unordered k
+  unfolding stored-edges
+  edge-is = at-number ∙ table-at (stored-edge consumer slot producer unordered) edges k no-edge edge-there
 
   pub its-consumer : out-edge n ds .consumer ≡ getD consumer k 0
-  unfolding held-edge
+  unfolding stored-edge
   its-consumer = ap (λ (d : Edge). d .consumer) edge-is
 
   pub its-slot : out-edge n ds .slot ≡ getD slot k 0
-  unfolding held-edge
+  unfolding stored-edge
   its-slot = ap (λ (d : Edge). d .slot) edge-is
 
 -- the first input of a stored step

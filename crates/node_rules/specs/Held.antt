@@ -1,10 +1,9 @@
--- How the code holds the edges of a run.
+-- What the code of a visit finds and leaves, of the edges and of the steps.
 use mathlib.Core.Path.{_≡_}
 use Prim.Native.Nat.{ℕ, _+_, _*_, _-_, _≤_, _<_}
 use mathlib.Core.Bool.{Bool, true, false}
 use mathlib.Core.List.{List, map}
-use mathlib.Core.Option.{Option, none, some}
-use lib.Dec.{eqb}
+use mathlib.Core.Option.{Option, none}
 use lib.ListN.{length, getD, set, take}
 use Rattle.plan.specs.Lists.{if_then_else_}
 use Rattle.plan.specs.Sheet.{Step, step-at}
@@ -14,23 +13,6 @@ use Rattle.plan.specs.declared.rules.Loosened.{Loosened}
 use Rattle.plan.specs.Visit as Visit
 use Rattle.node_rules.specs.declared.around.InEdges.{InEdges}
 use Rattle.node_rules.specs.declared.steps.Entries.{Entries}
-
--- Edges: consumer and slot never change; an edge into a removed sort has the producer 255, which is no step's ------------------
-
-abbrev pub producer-of : ℕ → Option ℕ
-producer-of p = if eqb p 255 then none else some p
-
-unfoldable pub held-edge : List ℕ → List ℕ → List ℕ → List Bool → ℕ → Edge
-held-edge consumer slot producer unordered k =
-    record {
-      consumer = getD consumer k 0;
-      slot = getD slot k 0;
-      producer = producer-of (getD producer k 0);
-      unordered = getD unordered k false;
-    }
-
-unfoldable pub held-edges : List ℕ → List ℕ → List ℕ → List Bool → ℕ → List Edge
-held-edges consumer slot producer unordered n = table (held-edge consumer slot producer unordered) 0 n
 
 -- The edges into a step --------------------------------------------------------------------------------------------------------------
 

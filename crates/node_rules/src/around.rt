@@ -8,8 +8,8 @@ ghost use lib.ListN.{getD};
 ghost use Rattle.plan.specs.Lists.{if_then_else_, all?};
 ghost use Rattle.plan.specs.Visit.{around, outs-unordered};
 ghost use Rattle.claims.specs.Demand3.{leaving-among};
-ghost use Rattle.storage.specs.Edges.{In-a-row};
-ghost use Rattle.node_rules.specs.Held.{held-edges, In-run, run-marks};
+ghost use Rattle.storage.specs.Edges.{stored-edges, In-a-row};
+ghost use Rattle.node_rules.specs.Held.{In-run, run-marks};
 use plan::rules::Around;
 
 // The numbers of a step's in-edges: those from one up to the other.
@@ -59,7 +59,7 @@ fn is_unordered(unordered: &[bool; 256], k: usize, to: usize) -> bool
 // Are all edges out of n unordered?
 fn all_out_unordered(producer: &[u8; 256], unordered: &[bool; 256], edges: usize, n: u8) -> bool
     requires { ⌜ (edges ≤ 256) × (n < 32) ⌝ }
-    ensures { λ r. ⌜ ((consumer slot : List ℕ) → r ≡ outs-unordered n (held-edges consumer slot (now (producer .entry)) (now (unordered .entry)) edges)) ⌝ }
+    ensures { λ r. ⌜ ((consumer slot : List ℕ) → r ≡ outs-unordered n (stored-edges consumer slot (now (producer .entry)) (now (unordered .entry)) edges)) ⌝ }
 {
     let mut r = true;
     let mut k: usize = 0;
@@ -73,7 +73,7 @@ fn all_out_unordered(producer: &[u8; 256], unordered: &[bool; 256], edges: usize
 // The number of the edge leaving n: the first whose producer it is, or `edges` if there is none.
 pub fn leaving_edge(producer: &[u8; 256], edges: usize, n: u8) -> usize
     requires { ⌜ (edges ≤ 256) × (n < 32) ⌝ }
-    ensures { λ r. ⌜ ((consumer slot : List ℕ) (unordered : List Bool) → r ≡ leaving-among n (held-edges consumer slot (now (producer .entry)) unordered edges)) × (r ≤ edges) ⌝ }
+    ensures { λ r. ⌜ ((consumer slot : List ℕ) (unordered : List Bool) → r ≡ leaving-among n (stored-edges consumer slot (now (producer .entry)) unordered edges)) × (r ≤ edges) ⌝ }
 {
     let mut k: usize = 0;
     while k < edges {
@@ -94,7 +94,7 @@ pub fn around_step(
     d: InEdges,
 ) -> Around
     requires { ⌜ (edges ≤ 256) × (n < 32) × (d .from ≤ d .to) × (d .to ≤ edges) ⌝ }
-    ensures { λ r. ⌜ ((consumer slot : List ℕ) → In-run consumer edges n d → r ≡ around n (held-edges consumer slot (now (producer .entry)) (now (unordered .entry)) edges)) ⌝ }
+    ensures { λ r. ⌜ ((consumer slot : List ℕ) → In-run consumer edges n d → r ≡ around n (stored-edges consumer slot (now (producer .entry)) (now (unordered .entry)) edges)) ⌝ }
 {
     let k = leaving_edge(producer, edges, n);
     let ins = all_unordered(unordered, d);

@@ -6,7 +6,8 @@ ghost use lib.Dec.{eqb};
 ghost use lib.ListN.{length};
 ghost use Rattle.plan.specs.Lists.{if_then_else_};
 ghost use Rattle.plan.specs.Visit.{loosened};
-ghost use Rattle.node_rules.specs.Held.{held-edges, In-run, ins-of, outs-of};
+ghost use Rattle.storage.specs.Edges.{stored-edges};
+ghost use Rattle.node_rules.specs.Held.{In-run, ins-of, outs-of};
 use crate::around::InEdges;
 use plan::rules::Loosened;
 
@@ -20,7 +21,7 @@ fn loosened_in(l: Loosened, k: u8) -> bool
 // The edges into a step, which are d.
 fn loosen_in(slot: &[u8; 256], unordered: &mut [bool; 256], d: InEdges, l: Loosened)
     requires { ⌜ (d .from ≤ d .to) × (d .to ≤ 256) × (length (now unordered) ≡ 256) ⌝ }
-    ensures { λ _. ⌜ ((consumer producer : List ℕ) (edges n : ℕ) → In-run consumer edges n d → held-edges consumer (now (slot .entry)) producer (now (unordered .exit)) edges ≡ map (loosened n (ins-of l)) (held-edges consumer (now (slot .entry)) producer (now (unordered .entry)) edges)) ⌝ }
+    ensures { λ _. ⌜ ((consumer producer : List ℕ) (edges n : ℕ) → In-run consumer edges n d → stored-edges consumer (now (slot .entry)) producer (now (unordered .exit)) edges ≡ map (loosened n (ins-of l)) (stored-edges consumer (now (slot .entry)) producer (now (unordered .entry)) edges)) ⌝ }
     ensures { λ _. ⌜ length (now (unordered .exit)) ≡ 256 ⌝ }
 {
     if !(l.in0 | l.later) {
@@ -37,7 +38,7 @@ fn loosen_in(slot: &[u8; 256], unordered: &mut [bool; 256], d: InEdges, l: Loose
 // The edges out of n.
 fn loosen_out(producer: &[u8; 256], unordered: &mut [bool; 256], edges: usize, n: u8, out: bool)
     requires { ⌜ (edges ≤ 256) × (n < 32) × (length (now unordered) ≡ 256) ⌝ }
-    ensures { λ _. ⌜ ((consumer slot : List ℕ) → held-edges consumer slot (now (producer .entry)) (now (unordered .exit)) edges ≡ map (loosened n (outs-of out)) (held-edges consumer slot (now (producer .entry)) (now (unordered .entry)) edges)) ⌝ }
+    ensures { λ _. ⌜ ((consumer slot : List ℕ) → stored-edges consumer slot (now (producer .entry)) (now (unordered .exit)) edges ≡ map (loosened n (outs-of out)) (stored-edges consumer slot (now (producer .entry)) (now (unordered .entry)) edges)) ⌝ }
     ensures { λ _. ⌜ length (now (unordered .exit)) ≡ 256 ⌝ }
 {
     if !out {
@@ -62,7 +63,7 @@ pub fn loosen_edges(
     l: Loosened,
 )
     requires { ⌜ (edges ≤ 256) × (n < 32) × (length (now unordered) ≡ 256) × (d .from ≤ d .to) × (d .to ≤ edges) ⌝ }
-    ensures { λ _. ⌜ ((consumer : List ℕ) → In-run consumer edges n d → held-edges consumer (now (slot .entry)) (now (producer .entry)) (now (unordered .exit)) edges ≡ map (loosened n l) (held-edges consumer (now (slot .entry)) (now (producer .entry)) (now (unordered .entry)) edges)) ⌝ }
+    ensures { λ _. ⌜ ((consumer : List ℕ) → In-run consumer edges n d → stored-edges consumer (now (slot .entry)) (now (producer .entry)) (now (unordered .exit)) edges ≡ map (loosened n l) (stored-edges consumer (now (slot .entry)) (now (producer .entry)) (now (unordered .entry)) edges)) ⌝ }
     ensures { λ _. ⌜ length (now (unordered .exit)) ≡ 256 ⌝ }
 {
     loosen_in(slot, unordered, d, l);

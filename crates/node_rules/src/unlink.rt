@@ -7,7 +7,8 @@ ghost use lib.ListN.{length};
 ghost use Rattle.plan.specs.Lists.{if_then_else_};
 ghost use Rattle.plan.specs.Visit.{in-edge};
 ghost use Rattle.storage.specs.Stored.{stored-steps, Steps-held};
-ghost use Rattle.node_rules.specs.Held.{producer-of, held-edges, In-run, handed-on, cut-off, Edges-held, Unlinkable, Unlinked};
+ghost use Rattle.storage.specs.Edges.{producer-of, stored-edges};
+ghost use Rattle.node_rules.specs.Held.{In-run, handed-on, cut-off, Edges-held, Unlinkable, Unlinked};
 use crate::around::InEdges;
 use crate::around::leaving_edge;
 use crate::store::store_input;
@@ -21,7 +22,7 @@ fn pick(b: bool, x: u8, y: u8) -> u8
 // The edges out of n are produced by `from`.
 fn hand_on(producer: &mut [u8; 256], edges: usize, n: u8, from: u8)
     requires { ⌜ (edges ≤ 256) × (n < 32) × (length (now producer) ≡ 256) ⌝ }
-    ensures { λ _. ⌜ ((consumer slot : List ℕ) (unordered : List Bool) → held-edges consumer slot (now (producer .exit)) unordered edges ≡ map (handed-on n (producer-of from)) (held-edges consumer slot (now (producer .entry)) unordered edges)) ⌝ }
+    ensures { λ _. ⌜ ((consumer slot : List ℕ) (unordered : List Bool) → stored-edges consumer slot (now (producer .exit)) unordered edges ≡ map (handed-on n (producer-of from)) (stored-edges consumer slot (now (producer .entry)) unordered edges)) ⌝ }
     ensures { λ _. ⌜ length (now (producer .exit)) ≡ 256 ⌝ }
 {
     let mut k: usize = 0;
@@ -35,7 +36,7 @@ fn hand_on(producer: &mut [u8; 256], edges: usize, n: u8, from: u8)
 // The edges into a step, which are d, lose their producer (255) and are unordered.
 fn cut_off(producer: &mut [u8; 256], unordered: &mut [bool; 256], d: InEdges)
     requires { ⌜ (d .from ≤ d .to) × (d .to ≤ 256) × (length (now producer) ≡ 256) × (length (now unordered) ≡ 256) ⌝ }
-    ensures { λ _. ⌜ ((consumer slot : List ℕ) (edges n : ℕ) → In-run consumer edges n d → held-edges consumer slot (now (producer .exit)) (now (unordered .exit)) edges ≡ map (cut-off n) (held-edges consumer slot (now (producer .entry)) (now (unordered .entry)) edges)) ⌝ }
+    ensures { λ _. ⌜ ((consumer slot : List ℕ) (edges n : ℕ) → In-run consumer edges n d → stored-edges consumer slot (now (producer .exit)) (now (unordered .exit)) edges ≡ map (cut-off n) (stored-edges consumer slot (now (producer .entry)) (now (unordered .entry)) edges)) ⌝ }
     ensures { λ _. ⌜ (length (now (producer .exit)) ≡ 256) × (length (now (unordered .exit)) ≡ 256) ⌝ }
 {
     let mut k = d.from;
@@ -49,7 +50,7 @@ fn cut_off(producer: &mut [u8; 256], unordered: &mut [bool; 256], d: InEdges)
 // What produces the first of the edges d into a step, or 255 if there is none.
 fn producer_into(producer: &[u8; 256], d: InEdges) -> u8
     requires { ⌜ d .to ≤ 256 ⌝ }
-    ensures { λ r. ⌜ ((consumer slot : List ℕ) (unordered : List Bool) (edges n : ℕ) → In-run consumer edges n d → producer-of r ≡ in-edge n (held-edges consumer slot (now (producer .entry)) unordered edges) .producer) ⌝ }
+    ensures { λ r. ⌜ ((consumer slot : List ℕ) (unordered : List Bool) (edges n : ℕ) → In-run consumer edges n d → producer-of r ≡ in-edge n (stored-edges consumer slot (now (producer .entry)) unordered edges) .producer) ⌝ }
 {
     let k = d.from;
     if k < d.to { producer[k] } else { 255 }
@@ -70,8 +71,8 @@ pub fn unlink_node(
 )
     requires { ⌜ Steps-held (now steps) «n_steps» ⌝ }
     requires { ⌜ Edges-held (now steps) «n_steps» (now consumer) (now slot) (now producer) (now unordered) edges × In-run (now consumer) edges n d ⌝ }
-    requires { ⌜ Unlinkable (now steps) «n_steps» n (held-edges (now consumer) (now slot) (now producer) (now unordered) edges) ⌝ }
-    ensures { λ _. ⌜ Unlinked n (stored-steps (now (steps .entry)) «n_steps») (held-edges (now (consumer .entry)) (now (slot .entry)) (now (producer .entry)) (now (unordered .entry)) edges) (stored-steps (now (steps .exit)) «n_steps») (held-edges (now (consumer .entry)) (now (slot .entry)) (now (producer .exit)) (now (unordered .exit)) edges) ⌝ }
+    requires { ⌜ Unlinkable (now steps) «n_steps» n (stored-edges (now consumer) (now slot) (now producer) (now unordered) edges) ⌝ }
+    ensures { λ _. ⌜ Unlinked n (stored-steps (now (steps .entry)) «n_steps») (stored-edges (now (consumer .entry)) (now (slot .entry)) (now (producer .entry)) (now (unordered .entry)) edges) (stored-steps (now (steps .exit)) «n_steps») (stored-edges (now (consumer .entry)) (now (slot .entry)) (now (producer .exit)) (now (unordered .exit)) edges) ⌝ }
     ensures { λ _. ⌜ Steps-held (now (steps .exit)) «n_steps» × ((length (now (producer .exit)) ≡ 256) × (length (now (unordered .exit)) ≡ 256)) ⌝ }
 {
     let k = leaving_edge(producer, edges, n);

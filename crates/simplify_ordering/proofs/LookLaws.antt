@@ -1,27 +1,32 @@
 -- The two lists of a visit: what their looks ask of the arena, and that they leave it as the definition's.
 use mathlib.Core.Path.{_≡_, refl, sym, ap, _∙_, subst}
-use Prim.Native.Nat.{ℕ, _≤_, _<_}
+use Prim.Native.Nat.{ℕ, _+_, _≤_, _<_, _^_}
 use native.Mathlib.Omega.{arith}
 use mathlib.Core.Logic.{_≢_}
-use mathlib.Core.Bool.{Bool, false}
-use mathlib.Core.List.{List, List·Memᴰ}
-use lib.ListN.{length, getD, set, take}
+use mathlib.Core.Bool.{Bool, true, false, _&&_}
+use mathlib.Core.List.{List, [], List·Memᴰ}
+use lib.ListN.{length, getD, set, take, length-replicate}
 use lib.Seq.{set-getD, getD-set-same}
-use borrow.Author.Tests.{eq-eqb, ne-eqb}
+use lib.Dec.{eqb}
+use borrow.Author.Tests.{eqb-true, eq-eqb, ne-eqb}
 use Rattle.plan.specs.declared.orders.ObservableOrders.{ObservableOrders}
 use Rattle.plan.specs.Kinds.{ir-number}
 use Rattle.plan.specs.Sheet.{Expr, Step, no-step, step-at}
+use Rattle.plan.specs.Orders.{∅}
+use Rattle.plan.specs.Look.{look-along, look-again, simplify-projected-exprs}
 use Rattle.plan.specs.Look as plan
+use Rattle.plan.specs.Tally.{looks-more}
 use Rattle.storage.specs.Stored.{arena-of, stored-steps, Steps-held}
-use Rattle.plan.specs.Visit.{imploded, with-implodes, with-aggs, options-of, allow-deordering-top, looks-of}
+use Rattle.plan.specs.Visit.{expr-order-simplifier, imploded, with-implodes, with-aggs, options-of, allow-deordering-top, looks-of}
 use Rattle.plan.specs.declared.rules.Around.{Around}
 use Rattle.plan.specs.Visit as Visit
 use Rattle.storage.proofs.Laws.{length-arena}
 use Rattle.plan.proofs.Counts.{mem-at}
 use Rattle.plan.specs.declared.tally.Tally.{Tally}
 use Rattle.expr.specs.Contract.{looked-of}
-use Rattle.expr.specs.Projected.{Started, ListAsks, ListGives}
-use Rattle.expr.specs.State.{State, eos-of, Falls, Formed}
+use Rattle.expr.specs.declared.eos.Eos.{Eos}
+use Rattle.expr.specs.Projected.{no-entries, Started, ListAsks, ListGives}
+use Rattle.expr.specs.State.{State, state, eos-of, Falls, Formed}
 use Rattle.simplify_ordering.specs.declared.looks.VisitLooks.{VisitLooks}
 use Rattle.node_rules.specs.declared.steps.Entries.{Entries}
 use Rattle.simplify_ordering.specs.Arena.{Arena-held}
@@ -31,86 +36,133 @@ use Rattle.simplify_ordering.specs.Looks.{first, second, Lists-ask, List
 falls-below : (n : ℕ) (xs : List ℕ) → ((q : ℕ) → List·Memᴰ q xs → q < n) → Falls n xs
 falls-below n xs there = record { child = λ k h. there (getD xs k 0) (mem-at xs k 0 h) }
 
+-- Two empty lists -----------------------------------------------------------------------------------------------------------------------
+
+both : (x y : Bool) → (x && y) ≡ true → (x ≡ true) × (y ≡ true)
+both true y h = (refl, h)
+both false true h = (h, refl)
+both false false h = (h, h)
+
+none-there : (e : Entries) (l : List ℕ) → Is-list l e → eqb (e .count) 0 ≡ true → l ≡ []
+none-there e l i h = sym (i .is) ∙ rw (eqb-true (e .count) 0 h)
+
+nothing-looked : (allow : Bool) (es : List Expr) (tally : Tally) → simplify-projected-exprs [] allow (expr-order-simplifier es tally) ≡ (∅, expr-order-simplifier es tally)
+unfolding simplify-projected-exprs look-along look-again
+nothing-looked allow es tally = refl
+
+-- The lists as they are asked for ---------------------------------------------------------------------------------------------------------
+
 module _ (recs line : List ℕ) (off : List Bool) (n : ℕ) (tally : Tally) (xs ys : List ℕ) (exprs aggs : Entries) (allow : Bool)
-    (ask : Lists-ask recs line off n tally xs ys exprs aggs allow) (s : State) (started : Started line off tally s) where
+    (ask : Lists-ask recs line off n tally xs ys exprs aggs allow) where
   abbrev es : List Expr
   es = arena-of recs line off n
 
-  start-formed : Formed n s
-  start-formed =
-      record {
-        sized =
-            record {
-              line = ap length (started .line-is) ∙ ask .arena .lines;
-              off = ap length (started .off-is) ∙ ask .arena .switches;
-              cache = started .cache-size;
-            };
-        below = λ q h. rw (started .line-is) (ask .arena .below q h);
-      }
+  module _ (none : (eqb (exprs .count) 0 && eqb (aggs .count) 0) ≡ true) where
+    first-none : first xs allow es tally ≡ (∅, expr-order-simplifier es tally)
+    first-none = ap (λ (l : List ℕ). first l allow es tally) (none-there exprs xs (ask .exprs-are) (both (eqb (exprs .count) 0) (eqb (aggs .count) 0) none .0)) ∙ nothing-looked allow es tally
 
-  pub first-asks : ListAsks recs n s (exprs .nodes) (exprs .count) allow
-  first-asks =
-      record {
-        based = ask .arena .based;
-        formed = start-formed;
-        few = ask .exprs-are .few;
-        room = ask .exprs-are .room;
-        falls = rw (ask .exprs-are .is) (falls-below n xs (ask .exprs-there));
-        fits = rw (ask .exprs-are .is, started .is recs n) (ask .between);
-      }
+    second-none : second xs ys allow es tally ≡ (∅, expr-order-simplifier es tally)
+    second-none =
+        ap (λ (x : ObservableOrders × plan.Eos). simplify-projected-exprs ys false (x .1)) first-none
+        ∙ ap (λ (l : List ℕ). first l false es tally) (none-there aggs ys (ask .aggs-are) (both (eqb (exprs .count) 0) (eqb (aggs .count) 0) none .1))
+        ∙ nothing-looked false es tally
 
-  module _ (b : State) (g : ListGives recs n s (exprs .nodes) (exprs .count) allow b) where
-    between-is : looked-of recs n b ≡ first xs allow es tally
-    between-is = rw (ask .exprs-are .is, started .is recs n) at (g .is)
-
-    between-formed : Formed n b
-    between-formed =
+    pub nothing-given : Lists-give recs line off n tally xs ys allow line off (record { observable = record { exprs = ∅; aggs = ∅; internal = ∅ }; tally = tally; exprs = n })
+    nothing-given =
         record {
-          sized = g .kept .sized (start-formed .sized);
-          below = λ q h. omega (arith, g .kept .lower q, start-formed .below q h);
+          arena = sym (ap (λ (x : ObservableOrders × plan.Eos). x .1 .expr-arena) second-none);
+          held = ask .arena;
+          exprs = sym (ap (λ (x : ObservableOrders × plan.Eos). x .0) first-none);
+          aggs = sym (ap (λ (x : ObservableOrders × plan.Eos). x .0) second-none);
+          internal = sym (ap (λ (x : ObservableOrders × plan.Eos). x .1 .internally-observed) second-none);
+          tally-is = sym (ap (λ (x : ObservableOrders × plan.Eos). x .1 .tally) second-none);
+          exprs-kept = refl;
         }
 
-    between-eos : eos-of recs n b ≡ first xs allow es tally .1
-    between-eos = ap (λ (p : ObservableOrders × plan.Eos). p .1) between-is
+  module _ (s : Eos) (started : Started s) where
+    abbrev start : State
+    start = state line off no-entries s
 
-    pub second-asks : ListAsks recs n b (aggs .nodes) (aggs .count) false
-    second-asks =
+    start-formed : Formed n start
+    start-formed =
+        record {
+          sized = record { line = ask .arena .lines; off = ask .arena .switches; cache = length-replicate {A = ℕ} 128 0 };
+          below = ask .arena .below;
+        }
+
+    pub first-asks : ListAsks recs n start (exprs .nodes) (exprs .count) allow
+    first-asks =
         record {
           based = ask .arena .based;
-          formed = between-formed;
-          few = ask .aggs-are .few;
-          room = ask .aggs-are .room;
-          falls = rw (ask .aggs-are .is) (falls-below n ys (ask .aggs-there));
-          fits = rw (ask .aggs-are .is, between-eos) (ask .end);
+          formed = start-formed;
+          few = ask .exprs-are .few;
+          room = ask .exprs-are .room;
+          falls = rw (ask .exprs-are .is) (falls-below n xs (ask .exprs-there));
+          tally = tally;
+          fits = rw (ask .exprs-are .is, started .is tally recs n line off) (ask .between);
         }
 
-    module _ (t : State) (h : ListGives recs n b (aggs .nodes) (aggs .count) false t) where
-      end-is : looked-of recs n t ≡ second xs ys allow es tally
-      end-is = rw (ask .aggs-are .is, between-eos) at (h .is)
+    module _ (b : State) (g : ListGives recs n start (exprs .nodes) (exprs .count) allow b) where
+      between-is : looked-of tally recs n b ≡ first xs allow es tally
+      between-is = rw (ask .exprs-are .is, started .is tally recs n line off) at (g .is tally)
 
-      end-eos : eos-of recs n t ≡ second xs ys allow es tally .1
-      end-eos = ap (λ (p : ObservableOrders × plan.Eos). p .1) end-is
-
-      pub lists-given : Lists-give recs line off n tally xs ys allow (t .line) (t .off)
-          (record { observable = record { exprs = b .answer; aggs = t .answer; internal = t .observed }; tally = t .tally; exprs = n })
-      unfolding eos-of
-      lists-given =
+      between-formed : Formed n b
+      between-formed =
           record {
-            arena = ap (λ (x : plan.Eos). x .expr-arena) end-eos;
-            held =
-                record {
-                  based = ask .arena .based;
-                  records = ask .arena .records;
-                  lines = h .kept .sized (between-formed .sized) .line;
-                  switches = h .kept .sized (between-formed .sized) .off;
-                  below = λ q l. omega (arith, h .kept .lower q, between-formed .below q l);
-                };
-            exprs = ap (λ (p : ObservableOrders × plan.Eos). p .0) between-is;
-            aggs = ap (λ (p : ObservableOrders × plan.Eos). p .0) end-is;
-            internal = ap (λ (x : plan.Eos). x .internally-observed) end-eos;
-            tally-is = ap (λ (x : plan.Eos). x .tally) end-eos;
-            exprs-kept = refl;
+            sized = g .kept .sized (start-formed .sized);
+            below = λ q h. omega (arith, g .kept .lower q, start-formed .below q h);
           }
+
+      between-eos : eos-of tally recs n b ≡ first xs allow es tally .1
+      between-eos = ap (λ (p : ObservableOrders × plan.Eos). p .1) between-is
+
+      pub second-asks : ListAsks recs n b (aggs .nodes) (aggs .count) false
+      second-asks =
+          record {
+            based = ask .arena .based;
+            formed = between-formed;
+            few = ask .aggs-are .few;
+            room = ask .aggs-are .room;
+            falls = rw (ask .aggs-are .is) (falls-below n ys (ask .aggs-there));
+            tally = tally;
+            fits = rw (ask .aggs-are .is, between-eos) (ask .end);
+          }
+
+      module _ (t : State) (h : ListGives recs n b (aggs .nodes) (aggs .count) false t) where
+        end-is : looked-of tally recs n t ≡ second xs ys allow es tally
+        end-is = rw (ask .aggs-are .is, between-eos) at (h .is tally)
+
+        end-eos : eos-of tally recs n t ≡ second xs ys allow es tally .1
+        end-eos = ap (λ (p : ObservableOrders × plan.Eos). p .1) end-is
+
+        end-tally : looks-more (t .own .looks) tally ≡ second xs ys allow es tally .1 .tally
+        unfolding eos-of
+        end-tally = ap (λ (x : plan.Eos). x .tally) end-eos
+
+        pub tally-fits : (looks : ℕ) → looks ≡ t .own .looks → tally .looks + looks < 2 ^ 64
+        tally-fits looks is = omega (arith, is, ap (λ (x : Tally). x .looks) end-tally, ask .end)
+
+        pub lists-given : (e a i : ObservableOrders) → e ≡ b .own .answer → a ≡ t .own .answer → i ≡ t .own .observed
+            → (looks : ℕ) → looks ≡ t .own .looks → (tally′ : Tally) → tally′ ≡ looks-more looks tally
+            → Lists-give recs line off n tally xs ys allow (t .line) (t .off) (record { observable = record { exprs = e; aggs = a; internal = i }; tally = tally′; exprs = n })
+        unfolding eos-of
+        lists-given e a i e-is a-is i-is looks looks-is tally′ tally′-is =
+            record {
+              arena = ap (λ (x : plan.Eos). x .expr-arena) end-eos;
+              held =
+                  record {
+                    based = ask .arena .based;
+                    records = ask .arena .records;
+                    lines = h .kept .sized (between-formed .sized) .line;
+                    switches = h .kept .sized (between-formed .sized) .off;
+                    below = λ q l. omega (arith, h .kept .lower q, between-formed .below q l);
+                  };
+              exprs = e-is ∙ ap (λ (p : ObservableOrders × plan.Eos). p .0) between-is;
+              aggs = a-is ∙ ap (λ (p : ObservableOrders × plan.Eos). p .0) end-is;
+              internal = i-is ∙ ap (λ (x : plan.Eos). x .internally-observed) end-eos;
+              tally-is = tally′-is ∙ ap (λ (k : ℕ). looks-more k tally) looks-is ∙ end-tally;
+              exprs-kept = refl;
+            }
 
 -- The lists of step i, the Implodes appended ---------------------------------------------------------------------------------------------
 

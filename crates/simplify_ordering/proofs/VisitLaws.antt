@@ -25,7 +25,8 @@ use Rattle.plan.specs.Tally.{visit-more}
 use Rattle.plan.specs.declared.rules.Options.{Options}
 use Rattle.plan.specs.declared.rules.Around.{Around}
 use Rattle.plan.specs.declared.rules.Observable.{Observable}
-use Rattle.node_rules.specs.Held.{Unlinked, Unlinkable, Edges-held, held-edge, held-edges}
+use Rattle.storage.specs.Edges.{stored-edge, stored-edges}
+use Rattle.node_rules.specs.Held.{Unlinked, Unlinkable, Edges-held}
 use Rattle.simplify_ordering.specs.Looks.{Listed}
 use Rattle.simplify_ordering.specs.Run.{run-of, Run-held, Ruled-by, stopped-at, Settle-asks}
 use Rattle.node_rules.proofs.StepLaws.{its-n1}
@@ -146,26 +147,26 @@ module _ (recs line : List ℕ) (off : List Bool) (m : ℕ) (steps : List ℕ) (
     (held : Run-held recs line off m steps n producer unordered edges) (i : ℕ)
     (v : Visitable i (run-of recs line off m steps n consumer slot producer unordered edges [] [] tally)) where
   abbrev ds : List Edge
-  ds = held-edges consumer slot producer unordered edges
+  ds = stored-edges consumer slot producer unordered edges
 
   pub here-is : i < n
   here-is = omega (arith, v .step, length-steps steps n)
 
-  edge-is : (k : ℕ) → k < edges → getD ds k no-edge ≡ held-edge consumer slot producer unordered k
-  unfolding held-edges
-  edge-is k h = table-at (held-edge consumer slot producer unordered) edges k no-edge h
+  edge-is : (k : ℕ) → k < edges → getD ds k no-edge ≡ stored-edge consumer slot producer unordered k
+  unfolding stored-edges
+  edge-is k h = table-at (stored-edge consumer slot producer unordered) edges k no-edge h
 
   number-there : (k : ℕ) → k < edges → k < length ds
-  unfolding held-edges
-  number-there k h = omega (arith, length-table (held-edge consumer slot producer unordered) 0 edges)
+  unfolding stored-edges
+  number-there k h = omega (arith, length-table (stored-edge consumer slot producer unordered) 0 edges)
 
   consumer-there : (k : ℕ) → k < edges → getD consumer k 0 < n
-  unfolding held-edge
+  unfolding stored-edge
   consumer-there k h =
       omega (arith, v .consumers k (number-there k h), ap (λ (d : Edge). d .consumer) (edge-is k h), length-steps steps n)
 
   pub edges-held : Edges-held steps n consumer slot producer unordered edges
-  unfolding held-edge
+  unfolding stored-edge
   edges-held =
       record {
         few = held .few;

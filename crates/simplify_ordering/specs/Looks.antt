@@ -30,8 +30,8 @@ pub record Lists-ask (recs line : List ℕ) (off : List Bool) (n : ℕ) (tally :
   pub aggs-are : Is-list ys aggs
   pub exprs-there : (q : ℕ) → List·Memᴰ q xs → q < n
   pub aggs-there : (q : ℕ) → List·Memᴰ q ys → q < n
-  pub between : first xs allow (arena-of recs line off n) tally .1 .tally .looks < 2 ^ 64
-  pub end : second xs ys allow (arena-of recs line off n) tally .1 .tally .looks < 2 ^ 64
+  pub between : first xs allow (arena-of recs line off n) tally .1 .tally .looks < 2 ^ 58
+  pub end : second xs ys allow (arena-of recs line off n) tally .1 .tally .looks < 2 ^ 58
 
 -- line′ and off′ are the lines afterwards
 pub record Lists-give (recs line : List ℕ) (off : List Bool) (n : ℕ) (tally : Tally) (xs ys : List ℕ) (allow : Bool) (line′ : List ℕ) (off′ : List Bool) (r : VisitLooks) : Type 0 where
@@ -50,8 +50,8 @@ pub record Listed (l : Visit.Looked) : Type 0 where
   pub exprs : (q : ℕ) → List·Memᴰ q (l .step .exprs) → q < length (l .start .expr-arena)
   pub aggs : (q : ℕ) → List·Memᴰ q (l .step .aggs) → q < length (l .start .expr-arena)
   pub room : length (l .start .expr-arena) ≤ 128
-  pub between : l .between .tally .looks < 2 ^ 64
-  pub end : l .end .tally .looks < 2 ^ 64
+  pub between : l .between .tally .looks < 2 ^ 58
+  pub end : l .end .tally .looks < 2 ^ 58
 
 -- l is the definition's looks, ps are the steps before, and the rest is as they leave it
 pub record Looks-give (l : Visit.Looked) (i n : ℕ) (ps : List Step) (steps recs line : List ℕ) (off : List Bool) (r : VisitLooks) : Type 0 where

@@ -14,7 +14,7 @@ use Rattle.plan.specs.Visit.{Run, options-of, with-options, rule, loosened, loo
 use Rattle.plan.specs.declared.tally.Tally.{Tally}
 use Rattle.simplify_ordering.specs.declared.visit.Visited.{Visited}
 use Rattle.simplify_ordering.specs.Arena.{Arena-held}
-use Rattle.node_rules.specs.Held.{held-edges}
+use Rattle.storage.specs.Edges.{stored-edges}
 use Rattle.simplify_ordering.specs.Looks.{Listed}
 
 -- recs, line, off: the arena's first m lines. steps: n of them. consumer, slot, producer, unordered: so many edges. The places gone
@@ -24,7 +24,7 @@ run-of recs line off m steps n consumer slot producer unordered edges back remov
     record {
       arena = arena-of recs line off m;
       steps = stored-steps steps n;
-      edges = held-edges consumer slot producer unordered edges;
+      edges = stored-edges consumer slot producer unordered edges;
       back = back;
       removed = removed;
       tally = tally;

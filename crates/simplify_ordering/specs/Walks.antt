@@ -6,7 +6,6 @@ use mathlib.Core.List.{List, [], _∷_, _++_}
 use lib.ListN.{length, set, take}
 use Rattle.plan.specs.Sheet.{Sheet, Outcome, refused, done}
 use Rattle.plan.specs.Graph.{graph}
-use Rattle.storage.specs.Edges.{In-rows}
 use Rattle.storage.specs.Stored.{arena-of, stored-steps}
 use Rattle.plan.specs.Visit.{Run, simplify-ir-node-orders}
 use Rattle.plan.specs.Walks.{walk, begin, down}
@@ -16,7 +15,7 @@ use Rattle.claims.specs.Visitable.{All-visitable}
 use Rattle.simplify_ordering.specs.declared.walks.Fetched.{Fetched}
 use Rattle.simplify_ordering.specs.declared.walks.Orderings.{Orderings}
 use Rattle.simplify_ordering.specs.declared.walks.Walked.{Walked}
-use Rattle.node_rules.specs.Held.{held-edges}
+use Rattle.storage.specs.Edges.{stored-edges, In-rows}
 use Rattle.simplify_ordering.specs.Run.{Run-held, stopped-at}
 
 -- One place ----------------------------------------------------------------------------------------------------------------------------
@@ -68,7 +67,7 @@ pub record Fetch-asks (recs line : List ℕ) (off : List Bool) (m : ℕ) (steps 
   pub formed : WellFormed (sheet-of recs line off m steps n)
   pub few : places ≤ 288
   pub places-are : take places list ≡ graph (stored-steps steps n) .0
-  pub edges-are : held-edges consumer slot producer unordered edges ≡ graph (stored-steps steps n) .1
+  pub edges-are : stored-edges consumer slot producer unordered edges ≡ graph (stored-steps steps n) .1
   pub rows : In-rows consumer in-edges edges n
 
 -- the run that both walks leave where one of them is refused: from the outcome of the downward walk

@@ -16,10 +16,12 @@ use node_rules::steps::Entries;
 use node_rules::steps::aggs_of;
 use node_rules::steps::exprs_of;
 use plan::ir::IR;
+use plan::orders::ObservableOrders;
 use plan::rules::Around;
 use plan::rules::Observable;
 use plan::rules::Options;
 use plan::tally::Tally;
+use tally::looked;
 
 // What was observed, the tally afterwards, and how many records the arena has.
 pub struct VisitLooks {
@@ -28,7 +30,7 @@ pub struct VisitLooks {
     pub exprs: usize,
 }
 
-// The n2 list, then the n3 list, with one cache and one observed set.
+// The n2 list, then the n3 list, with one cache and one observed set; nothing is set up for two empty lists.
 fn look_at_lists(
     recs: &[u8; 2048],
     line: &mut [u8; 128],
@@ -42,23 +44,30 @@ fn look_at_lists(
     requires { ⌜ Lists-ask (now recs) (now line) (now off) n tally (take (exprs .count) (exprs .nodes)) (take (aggs .count) (aggs .nodes)) exprs aggs allow ⌝ }
     ensures { λ r. ⌜ Lists-give (now (recs .entry)) (now (line .entry)) (now (off .entry)) n tally (take (exprs .count) (exprs .nodes)) (take (aggs .count) (aggs .nodes)) allow (now (line .exit)) (now (off .exit)) r ⌝ }
 {
+    if (exprs.count == 0) & (aggs.count == 0) {
+        return VisitLooks {
+            observable: Observable {
+                exprs: ObservableOrders::EMPTY,
+                aggs: ObservableOrders::EMPTY,
+                internal: ObservableOrders::EMPTY,
+            },
+            tally: tally,
+            exprs: n,
+        };
+    }
     let mut cache: [u8; 128] = [0; 128];
-    let new = expr_order_simplifier(&mut cache, tally);
+    let new = expr_order_simplifier();
     let xs = exprs.nodes;
     let mid = simplify_projected_exprs(recs, line, off, &mut cache, n, new, xs, exprs.count, allow);
-    let exprs_observable = mid.answer;
     let ys = aggs.nodes;
     let end = simplify_projected_exprs(recs, line, off, &mut cache, n, mid, ys, aggs.count, false);
-    let aggs_observable = end.answer;
-    let internal = end.observed;
-    let tally_now = end.tally;
     VisitLooks {
         observable: Observable {
-            exprs: exprs_observable,
-            aggs: aggs_observable,
-            internal: internal,
+            exprs: mid.answer(),
+            aggs: end.answer(),
+            internal: end.observed(),
         },
-        tally: tally_now,
+        tally: looked(tally, end.looks()),
         exprs: n,
     }
 }

@@ -1,18 +1,18 @@
 // A visit to a step: simplify_ir_node_orders.
 ghost use mathlib.Core.Path.{_≡_};
 ghost use mathlib.Core.Bool.{_&&_, not};
-ghost use mathlib.Core.List.{List, []};
-ghost use Prim.Native.Nat.{ℕ, _≤_, _<_};
+ghost use mathlib.Core.List.{[]};
+ghost use Prim.Native.Nat.{_≤_, _<_};
 ghost use lib.ListN.{length};
 ghost use Rattle.plan.specs.Kinds.{same-ir};
 ghost use Rattle.plan.specs.declared.ir.IR.{IR};
 ghost use Rattle.plan.specs.Lists.{yes?};
 ghost use Rattle.plan.specs.Sheet.{step-at};
-ghost use Rattle.storage.specs.Edges.{In-rows};
 ghost use Rattle.storage.specs.Stored.{stored-steps, Steps-held};
 ghost use Rattle.plan.specs.Visit.{options-of, around, refusal-number, settle, simplify-ir-node-orders};
 ghost use Rattle.claims.specs.Visitable.{Visitable};
-ghost use Rattle.node_rules.specs.Held.{held-edges, In-run};
+ghost use Rattle.storage.specs.Edges.{stored-edges, In-rows};
+ghost use Rattle.node_rules.specs.Held.{In-run};
 ghost use Rattle.simplify_ordering.specs.Run.{run-of, Run-held, Ruled-by, Comes, Settle-asks};
 use crate::looks::looks_of;
 use node_rules::around::InEdges;
@@ -62,7 +62,7 @@ fn settle_by_rule(
     requires { ⌜ Steps-held (now steps) «n_steps» × (n < «n_steps») × (s ≡ options-of (step-at (stored-steps (now steps) «n_steps») n)) ⌝ }
     requires { ⌜ (edges ≤ 256) × (length (now unordered) ≡ 256) × In-run (now consumer) edges n d ⌝ }
     ensures { λ r. ⌜ r ≡ refusal-number (options-of (step-at (stored-steps (now (steps .entry)) «n_steps») n)) o ⌝ }
-    ensures { λ r. ⌜ (r ≡ 0 → Ruled-by n e o (stored-steps (now (steps .entry)) «n_steps») (held-edges (now (consumer .entry)) (now (slot .entry)) (now (producer .entry)) (now (unordered .entry)) edges) (stored-steps (now (steps .exit)) «n_steps») (held-edges (now (consumer .entry)) (now (slot .entry)) (now (producer .entry)) (now (unordered .exit)) edges)) ⌝ }
+    ensures { λ r. ⌜ (r ≡ 0 → Ruled-by n e o (stored-steps (now (steps .entry)) «n_steps») (stored-edges (now (consumer .entry)) (now (slot .entry)) (now (producer .entry)) (now (unordered .entry)) edges) (stored-steps (now (steps .exit)) «n_steps») (stored-edges (now (consumer .entry)) (now (slot .entry)) (now (producer .entry)) (now (unordered .exit)) edges)) ⌝ }
     ensures { λ r. ⌜ ((r ≡ 0 → ⊥) → (now (steps .exit) ≡ now (steps .entry)) × (now (unordered .exit) ≡ now (unordered .entry))) ⌝ }
     ensures { λ r. ⌜ Steps-held (now (steps .exit)) «n_steps» × (length (now (unordered .exit)) ≡ 256) ⌝ }
 {
@@ -98,7 +98,7 @@ fn settle(
     e: Around,
 ) -> Visit
     requires { ⌜ Run-held (now recs) (now line) (now off) exprs (now steps) «n_steps» (now producer) (now unordered) edges × (n < «n_steps») ⌝ }
-    requires { ⌜ (s ≡ options-of (step-at (stored-steps (now steps) «n_steps») n)) × (e ≡ around n (held-edges (now consumer) (now slot) (now producer) (now unordered) edges)) × In-run (now consumer) edges n d ⌝ }
+    requires { ⌜ (s ≡ options-of (step-at (stored-steps (now steps) «n_steps») n)) × (e ≡ around n (stored-edges (now consumer) (now slot) (now producer) (now unordered) edges)) × In-run (now consumer) edges n d ⌝ }
     requires { ⌜ Settle-asks n (run-of (now recs) (now line) (now off) exprs (now steps) «n_steps» (now consumer) (now slot) (now producer) (now unordered) edges [] [] tally) ⌝ }
     ensures { λ r. ⌜ Comes settle n (λ b d. run-of (now (recs .entry)) (now (line .entry)) (now (off .entry)) exprs (now (steps .entry)) «n_steps» (now (consumer .entry)) (now (slot .entry)) (now (producer .entry)) (now (unordered .entry)) edges b d tally) (λ b d. run-of (now (recs .exit)) (now (line .exit)) (now (off .exit)) (r .exprs) (now (steps .exit)) «n_steps» (now (consumer .entry)) (now (slot .entry)) (now (producer .entry)) (now (unordered .exit)) edges b d (r .tally)) (r .visited) ⌝ }
     ensures { λ r. ⌜ Run-held (now (recs .exit)) (now (line .exit)) (now (off .exit)) (r .exprs) (now (steps .exit)) «n_steps» (now (producer .entry)) (now (unordered .exit)) edges ⌝ }

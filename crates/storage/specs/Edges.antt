@@ -1,8 +1,33 @@
--- How the code stores the edges: the step that consumes each of them, and the number of each step's first in-edge.
+-- How the code stores the edges: an array each for the steps that consume them, their slots, the steps that produce them and their
+-- marks, and one for the number of each step's first in-edge. Consumers and slots never change.
 use Prim.Native.Nat.{ℕ, _≤_, _<_}
 use mathlib.Core.Path.{_≡_}
+use mathlib.Core.Bool.{Bool, false}
 use mathlib.Core.List.{List}
+use mathlib.Core.Option.{Option, none, some}
+use lib.Dec.{eqb}
 use lib.ListN.{getD}
+use Rattle.plan.specs.Lists.{if_then_else_}
+use Rattle.plan.specs.Graph.{Edge}
+use Rattle.storage.specs.Stored.{table}
+
+-- an edge into a removed sort has the producer 255, which is no step's
+abbrev pub producer-of : ℕ → Option ℕ
+producer-of p = if eqb p 255 then none else some p
+
+unfoldable pub stored-edge : List ℕ → List ℕ → List ℕ → List Bool → ℕ → Edge
+stored-edge consumer slot producer unordered k =
+    record {
+      consumer = getD consumer k 0;
+      slot = getD slot k 0;
+      producer = producer-of (getD producer k 0);
+      unordered = getD unordered k false;
+    }
+
+unfoldable pub stored-edges : List ℕ → List ℕ → List ℕ → List Bool → ℕ → List Edge
+stored-edges consumer slot producer unordered n = table (stored-edge consumer slot producer unordered) 0 n
+
+-- In-edges ---------------------------------------------------------------------------------------------------------------------------
 
 -- the edges into step m stand in a row among the first `edges`: none is before the number that in-edges has for it, and from there to
 -- the last of them there is no other

@@ -1,11 +1,12 @@
 // The finished sheet block by block: E lines, P lines, G lines, T line.
 ghost use Prim.Native.Nat.{ℕ, _+_, _≤_, _<_};
+ghost use mathlib.Core.List.{List};
 ghost use lib.ListN.{length};
 ghost use Rattle.plan.specs.Lists.{concat-map};
 ghost use Rattle.plan.specs.Text.{expr-line, step-line, edge-line};
+ghost use Rattle.storage.specs.Edges.{stored-edges};
 ghost use Rattle.storage.specs.Stored.{stored-expr, stored-step, stored-exprs, stored-steps, Expr-formed, Step-formed};
 ghost use Rattle.writing.specs.Wrote.{Wrote};
-ghost use Rattle.writing.specs.Blocks.{stored-edges};
 use crate::lines::put_edge;
 use crate::lines::put_line;
 
@@ -71,6 +72,7 @@ pub fn put_steps(out: &mut [u8], steps: &[u8; 1024], n: usize) -> usize
     len
 }
 
+// Whatever produces the edges: that is not printed.
 pub fn put_edges(
     out: &mut [u8],
     consumer: &[u8; 256],
@@ -80,7 +82,7 @@ pub fn put_edges(
 ) -> usize
     requires { ⌜ n ≤ 256 ⌝ }
     requires { ⌜ 3584 ≤ length (now out) ⌝ }
-    ensures { λ r. ⌜ Wrote (concat-map edge-line (stored-edges (now (consumer .entry)) (now (slot .entry)) (now (unordered .entry)) n)) (now (out .entry)) (now (out .exit)) r × (r ≤ 3584) ⌝ }
+    ensures { λ r. ⌜ ((producer : List ℕ) → Wrote (concat-map edge-line (stored-edges (now (consumer .entry)) (now (slot .entry)) producer (now (unordered .entry)) n)) (now (out .entry)) (now (out .exit)) r) × (r ≤ 3584) ⌝ }
 {
     let mut len: usize = 0;
     let mut i: usize = 0;

@@ -1,12 +1,13 @@
 // The whole finished sheet, block by block.
 ghost use mathlib.Core.Path.{_≡_};
-ghost use mathlib.Core.List.{[], _∷_};
+ghost use mathlib.Core.List.{List, [], _∷_};
 ghost use Prim.Native.Nat.{ℕ, _≤_, _<_};
 ghost use lib.ListN.{length};
 ghost use Rattle.plan.specs.Lists.{concat-map};
 ghost use Rattle.plan.specs.Text.{line, expr-line, step-line, edge-line};
+ghost use Rattle.storage.specs.Edges.{stored-edges};
 ghost use Rattle.storage.specs.Stored.{stored-exprs, stored-steps, Expr-formed, Step-formed};
-ghost use Rattle.writing.specs.Blocks.{stored-edges, Sheet-wrote};
+ghost use Rattle.writing.specs.Blocks.{Sheet-wrote};
 use crate::blocks::put_edges;
 use crate::blocks::put_exprs;
 use crate::blocks::put_steps;
@@ -27,6 +28,7 @@ pub struct Tallies {
     pub looks: u64,
 }
 
+// Whatever produces the edges: that is not printed.
 pub fn put_finished(
     out: &mut [u8],
     exprs: &[u8; 2048],
@@ -41,7 +43,7 @@ pub fn put_finished(
     requires { ⌜ (n .exprs ≤ 128) × (n .steps ≤ 32) × (n .edges ≤ 256) ⌝ }
     requires { ⌜ ((i : ℕ) → i < n .exprs → Expr-formed (now exprs) i) ⌝ }
     requires { ⌜ ((i : ℕ) → i < n .steps → Step-formed (now steps) i) ⌝ }
-    ensures { λ r. ⌜ Sheet-wrote (concat-map expr-line (stored-exprs (now (exprs .entry)) (n .exprs))) (concat-map step-line (stored-steps (now (steps .entry)) (n .steps))) (concat-map edge-line (stored-edges (now (consumer .entry)) (now (slot .entry)) (now (unordered .entry)) (n .edges))) (line 84 (t .removed ∷ t .visits ∷ t .looks ∷ [])) (now (out .entry)) (now (out .exit)) r ⌝ }
+    ensures { λ r. ⌜ ((producer : List ℕ) → Sheet-wrote (concat-map expr-line (stored-exprs (now (exprs .entry)) (n .exprs))) (concat-map step-line (stored-steps (now (steps .entry)) (n .steps))) (concat-map edge-line (stored-edges (now (consumer .entry)) (now (slot .entry)) producer (now (unordered .entry)) (n .edges))) (line 84 (t .removed ∷ t .visits ∷ t .looks ∷ [])) (now (out .entry)) (now (out .exit)) r) ⌝ }
     ensures { λ r. ⌜ (r .removed ≡ t .removed) × (r .visits ≡ t .visits) × (r .looks ≡ t .looks) ⌝ }
 {
     let a = put_exprs(out, exprs, n.exprs);

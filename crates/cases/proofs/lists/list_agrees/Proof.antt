@@ -20,9 +20,9 @@ expr-order-simplifier-requires c κs = search needs
 
 simplify-projected-exprs-requires : tie.Need-simplify-projected-exprs-requires
 simplify-projected-exprs-requires c κs =
-    let p = c .before .before .before .before .before .before .before .before .before .before .pre in
-    let size = c .before .before .before .before .before .before .before .before .size-2048 .ensures in
-    asks-at-start _ _ (p .0) (omega (arith, size, p .0 .few)) _ _ _ _ (c .before .before .before .before .before .before .before .own-lines .ensures) (c .before .before .before .before .before .before .none-off .ensures) (c .before .before .before .before .expr-order-simplifier .ensures _ _) (omega arith) _ _ _ (p .1 .0) (p .1 .1) (p .1 .2)
+    let p = c .before .before .before .before .before .before .before .before .before .pre in
+    let size = c .before .before .before .before .before .before .before .size-2048 .ensures in
+    asks-at-start _ _ (p .0) (omega (arith, size, p .0 .few)) _ _ (c .before .before .before .before .before .before .own-lines .ensures) (c .before .before .before .before .before .none-off .ensures) _ (c .before .before .before .before .expr-order-simplifier .ensures) _ _ _ (p .1 .0) (p .1 .1) (p .1 .2)
 
 answers-agree-requires : tie.Need-answers-agree-requires
 answers-agree-requires c κs = search needs
@@ -32,8 +32,8 @@ returns c = search needs
 
 records-agree-requires : tie.Need-records-agree-requires
 records-agree-requires c κs =
-    let few = c .before .before .before .before .before .before .before .before .before .before .before .before .before .pre .0 .few in
-    let started = formed-at-start (now (c .before .before .before .before .before .before .before .before .before .before .before .before .before .args .recs)) _ few _ _ (c .before .before .before .before .before .before .before .before .before .before .own-lines .ensures) (c .before .before .before .before .before .before .before .before .before .none-off .ensures) _ _ (c .before .before .before .before .before .before .before .expr-order-simplifier .ensures _ _) in
+    let few = c .before .before .before .before .before .before .before .before .before .before .before .before .pre .0 .few in
+    let started = formed-at-start (now (c .before .before .before .before .before .before .before .before .before .before .before .before .args .recs)) _ few _ _ (c .before .before .before .before .before .before .before .before .before .own-lines .ensures) (c .before .before .before .before .before .before .before .before .none-off .ensures) (c .before .before .before .before .before .before .before .expr-order-simplifier .result) in
     let sized = c .before .before .simplify-projected-exprs .ensures .kept .sized (started .sized) in
     (few, sized .line, sized .off)
 

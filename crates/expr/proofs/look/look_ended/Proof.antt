@@ -1,3 +1,5 @@
+use mathlib.Core.Path.{ap, _∙_}
+use Rattle.expr.specs.Eos as own
 use Rattle.expr.specs.State.{state}
 use Rattle.expr.proofs.States.{ended}
 use borrow.Author.Needs.{needs}
@@ -10,6 +12,9 @@ element-copy-out-was c = search needs
 element-copy-out-entry : tie.Need-element-copy-out-entry
 element-copy-out-entry c = search needs
 
+observed-requires : tie.Need-observed-requires
+observed-requires c κs = search needs
+
 union-requires : tie.Need-union-requires
 union-requires c κs = search needs
 
@@ -18,6 +23,9 @@ loses-order-requires c κs = search needs
 
 element-write-off : tie.Need-element-write-off
 element-write-off c = search needs
+
+answer-requires : tie.Need-answer-requires
+answer-requires c κs = search needs
 
 packed-requires : tie.Need-packed-requires
 packed-requires c κs = search needs
@@ -28,11 +36,18 @@ pick-byte-requires c κs = search needs
 element-write-cache : tie.Need-element-write-cache
 element-write-cache c = search needs
 
+with-observed-requires : tie.Need-with-observed-requires
+with-observed-requires c κs = search needs
+
+with-field-requires : tie.Need-with-field-requires
+with-field-requires c κs = search needs
+
 returns : tie.Need-returns
 returns c =
-    let s0 = c .before .before .before .before .before .before .before .before in
+    let s0 = c .before .before .before .before .before .before .before .before .before .before in
     let a = s0 .args in
-    λ line. ended (state line (a .off .now) (a .cache .now) (a .s)) (a .p) (a .e) (a .v) (a .o) (a .field) (a .first) (s0 .pre .0) (s0 .pre .1) (s0 .pre .2) _ _ _ _ (c .before .before .loses-order .ensures) (c .before .before .before .union .ensures) (c .before .packed .ensures) (c .pick-byte .ensures)
+    let owned = c .with-field .ensures ∙ ap (own.with-field (a .field)) (c .before .with-observed .ensures) in
+    λ line. ended (state line (a .off .now) (a .cache .now) (a .s)) (a .p) (a .e) (a .v) (a .field) (a .first) (s0 .pre .0) (s0 .pre .1) (s0 .pre .2) _ _ _ _ _ _ _ (c .before .before .before .before .before .loses-order .ensures) (c .before .before .before .before .before .before .before .observed .ensures) (c .before .before .before .before .before .before .union .ensures) (c .before .before .before .before .answer .ensures) (c .before .before .before .packed .ensures) (c .before .before .pick-byte .ensures) owned
 
 pub look-ended-spec : {M : Type 1} → statement M
 look-ended-spec =
@@ -40,10 +55,14 @@ look-ended-spec =
     (tie.spec
     element-copy-out-was
     element-copy-out-entry
+    observed-requires
     union-requires
     loses-order-requires
     element-write-off
+    answer-requires
     packed-requires
     pick-byte-requires
     element-write-cache
+    with-observed-requires
+    with-field-requires
     returns)

@@ -1,6 +1,6 @@
 use mathlib.Core.Path.{_≡_, refl}
 use denote.Ref.{now}
-use Prim.Native.Nat.{_-_, _≤_}
+use Prim.Native.Nat.{_+_, _-_, _≤_}
 use native.Mathlib.Omega.{arith}
 use borrow.Author.Needs.{needs}
 use lib.ListN.{length}
@@ -43,7 +43,10 @@ element-copy-out-make-edge : tie.Need-element-copy-out-make-edge Inv-loop μ-loo
 element-copy-out-make-edge c = search needs
 
 make-edge-requires : tie.Need-make-edge-requires Inv-loop μ-loop
-make-edge-requires c κs = search needs
+make-edge-requires c κs =
+    let s = c .before .before .before .before .before .before .before in
+    let k = c .before .before .before .before .before .loop .k in
+    (omega arith, s .pre .1 .1 (s .args .start + k) (omega arith) (omega arith))
 
 add-k : tie.Need-add-k Inv-loop μ-loop
 add-k c = search needs

@@ -26,7 +26,7 @@ element-write-producer c = search needs
 returns : tie.Need-returns
 returns c =
     let s = c .before .before .before .before .before .before in
-    edge-more (now (s .args .consumer)) (now (s .args .slot)) (now (s .args .producer)) (s .args .e) (s .args .step) (s .args .k) (s .args .input)
+    edge-more (now (s .args .consumer)) (now (s .args .slot)) (now (s .args .producer)) (s .args .e) (s .args .step) (s .args .k) (s .args .input) (omega arith)
     (omega (arith, c .before .before .before .before .size-256 .ensures)) (omega (arith, c .before .before .size-2562 .ensures)) (omega (arith, c .size-2563 .ensures))
 
 pub make-edge-spec : {M : Type 1} → statement M

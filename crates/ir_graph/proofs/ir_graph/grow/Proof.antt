@@ -7,7 +7,7 @@ use Rattle.plan.specs.Faults.{named}
 use Rattle.plan.specs.Graph.{sinks}
 use Rattle.storage.specs.Stored.{stored-steps}
 use Rattle.ir_graph.proofs.SecondPass.{Turn}
-use Rattle.ir_graph.proofs.Graphs.{Placing, placing, turn-at, places-left, placing-next, built}
+use Rattle.ir_graph.proofs.Graphs.{Placing, placing, turn-at, places-left, pushed-there, placing-next, built}
 use Rattle.ir_graph.proofs.ir_graph.grow.Statement.{statement}
 use Rattle.ir_graph.proofs.ir_graph.grow.Tie as tie
 
@@ -69,8 +69,17 @@ follow-requires c κs =
 link-requires : tie.Need-link-requires Inv-loop μ-loop
 link-requires c κs =
     let t = turn-in (c .before .before .before .before .before .before .before .before) in
-    let q = c .before .before .before .before .follow .ensures .0 .len in
-    (omega (arith, q, t .few, t .places), omega (arith, q, t .edges))
+    let f = c .before .before .before .before .follow .ensures .0 in
+    let q = f .len in
+    let s = c .before .before .before .before .before .before .before .before .before .before .before .before .before .before .before .before in
+    let l = c .before .before .before .before .before .before .before .before .before .loop in (
+      omega (arith, q, t .few, t .places),
+      (
+        omega (arith, q, t .edges),
+        pushed-there (now (s .args .steps)) (s .args .n) (s .pre .0) (s .pre .1 .0) (s .pre .1 .1 .0)
+            (l .places) (l .hits) (l .consumer) (l .slot) (l .producer) (l .in-edges) (l .len) (l .edges) (l .i) (l .inv) (c .before .before .before .before .before .before .before .before .loop-test .taken) _ _ _ f (c .before .before .before .before .follow .ensures .1),
+      ),
+    )
 
 add-i : tie.Need-add-i Inv-loop μ-loop
 add-i c = let t = turn-in (c .before .before .before .before .before .before .before .before .before) in omega (arith, t .places, c .before .before .before .before .before .before .before .before .before .loop-test .taken)

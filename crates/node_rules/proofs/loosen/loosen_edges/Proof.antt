@@ -1,7 +1,8 @@
 use mathlib.Core.Path.{ap, _∙_}
 use mathlib.Core.List.{map}
 use Rattle.plan.specs.Visit.{loosened}
-use Rattle.node_rules.specs.Held.{held-edges, outs-of}
+use Rattle.storage.specs.Edges.{stored-edges}
+use Rattle.node_rules.specs.Held.{outs-of}
 use Rattle.node_rules.proofs.EdgeChanges.{both-loosened}
 use denote.Ref.{now}
 use borrow.Author.Needs.{needs}
@@ -19,7 +20,7 @@ returns c =
     let a = c .before .before .before .before .args in
     let ins = c .before .before .loosen-in .ensures in
     let outs = c .loosen-out .ensures in (
-      (λ consumer run. outs .0 consumer (now (a .slot)) ∙ ap (map (loosened (a .n) (outs-of (a .l .out)))) (ins .0 consumer (now (a .producer)) (a .edges) (a .n) run) ∙ both-loosened (a .n) (a .l) (held-edges consumer (now (a .slot)) (now (a .producer)) (now (a .unordered)) (a .edges))),
+      (λ consumer run. outs .0 consumer (now (a .slot)) ∙ ap (map (loosened (a .n) (outs-of (a .l .out)))) (ins .0 consumer (now (a .producer)) (a .edges) (a .n) run) ∙ both-loosened (a .n) (a .l) (stored-edges consumer (now (a .slot)) (now (a .producer)) (now (a .unordered)) (a .edges))),
       outs .1,
     )
 

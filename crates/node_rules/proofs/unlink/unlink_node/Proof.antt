@@ -2,7 +2,8 @@ use denote.Ref.{now}
 use native.Mathlib.Omega.{arith}
 use mathlib.Core.Path.{ap, _∙_}
 use mathlib.Core.List.{map}
-use Rattle.node_rules.specs.Held.{producer-of, held-edges, cut-off}
+use Rattle.storage.specs.Edges.{producer-of, stored-edges}
+use Rattle.node_rules.specs.Held.{cut-off}
 use Rattle.node_rules.proofs.EdgeChanges.{both-relinked}
 use Rattle.node_rules.proofs.UnlinkLaws.{edge-there, its-consumer, its-slot, first-input}
 use borrow.Author.Needs.{needs}
@@ -79,7 +80,7 @@ returns c =
     let consumer = its-consumer (now (a .consumer)) (now (a .slot)) (now (a .producer)) (now (a .unordered)) (a .edges) (a .n) (k .result) leaves (s .pre .1 .1 .unordered) in
     let slot = its-slot (now (a .consumer)) (now (a .slot)) (now (a .producer)) (now (a .unordered)) (a .edges) (a .n) (k .result) leaves (s .pre .1 .1 .unordered) in
     let input = first-input (now (a .steps)) (a .n-steps) (a .n) (s .pre .1 .1 .step) (s .pre .1 .1 .reads) in
-    let ds = held-edges (now (a .consumer)) (now (a .slot)) (now (a .producer)) (now (a .unordered)) (a .edges) in
+    let ds = stored-edges (now (a .consumer)) (now (a .slot)) (now (a .producer)) (now (a .unordered)) (a .edges) in
     let from = c .before .before .before .before .before .producer-into in
     let put = c .before .before .before .before .before .before .before .store-input .ensures in
     let handed = c .before .before .before .hand-on .ensures .0 (now (a .consumer)) (now (a .slot)) (now (a .unordered)) in

@@ -1,6 +1,6 @@
 use Rattle.simplify_ordering.proofs.VisitLaws.{listed-of, options-now, stops, settle-refused, settle-done, visit-fits}
 use Rattle.simplify_ordering.specs.Run.{run-of}
-use Rattle.node_rules.specs.Held.{held-edges}
+use Rattle.storage.specs.Edges.{stored-edges}
 use Rattle.storage.specs.Stored.{arena-of, stored-steps}
 use Rattle.storage.proofs.Laws.{length-steps, length-arena}
 use lib.ListN.{length}
@@ -27,7 +27,7 @@ settle-by-rule-requires c κs =
     let s = c .before .before .before .before .before .before .before .before .before in
     let a = s .args in
     let ps = stored-steps (now (a .steps)) (a .n-steps) in
-    let ds = held-edges (now (a .consumer)) (now (a .slot)) (now (a .producer)) (now (a .unordered)) (a .edges) in
+    let ds = stored-edges (now (a .consumer)) (now (a .slot)) (now (a .producer)) (now (a .unordered)) (a .edges) in
     let es = arena-of (now (a .recs)) (now (a .line)) (now (a .off)) (a .exprs) in
     let here : a .n < length ps = omega (arith, s .pre .0 .1, length-steps (now (a .steps)) (a .n-steps)) in
     let g = rw (s .pre .1 .0 .1) at (c .before .before .before .before .looks-of .ensures) in
@@ -39,7 +39,7 @@ returns c =
     let s = c .before .before .before .before .before .before .before .before .before .before .before in
     let a = s .args in
     let ps = stored-steps (now (a .steps)) (a .n-steps) in
-    let ds = held-edges (now (a .consumer)) (now (a .slot)) (now (a .producer)) (now (a .unordered)) (a .edges) in
+    let ds = stored-edges (now (a .consumer)) (now (a .slot)) (now (a .producer)) (now (a .unordered)) (a .edges) in
     let es = arena-of (now (a .recs)) (now (a .line)) (now (a .off)) (a .exprs) in
     let here : a .n < length ps = omega (arith, s .pre .0 .1, length-steps (now (a .steps)) (a .n-steps)) in
     let g = rw (s .pre .1 .0 .1) at (c .before .before .before .before .before .before .looks-of .ensures) in
@@ -64,7 +64,7 @@ returns-2 c =
     let s = c .before .before .before .before .before .before .before .before .before .before .before .before in
     let a = s .args in
     let ps = stored-steps (now (a .steps)) (a .n-steps) in
-    let ds = held-edges (now (a .consumer)) (now (a .slot)) (now (a .producer)) (now (a .unordered)) (a .edges) in
+    let ds = stored-edges (now (a .consumer)) (now (a .slot)) (now (a .producer)) (now (a .unordered)) (a .edges) in
     let es = arena-of (now (a .recs)) (now (a .line)) (now (a .off)) (a .exprs) in
     let here : a .n < length ps = omega (arith, s .pre .0 .1, length-steps (now (a .steps)) (a .n-steps)) in
     let g = rw (s .pre .1 .0 .1) at (c .before .before .before .before .before .before .before .looks-of .ensures) in

@@ -1,4 +1,4 @@
-use Rattle.node_rules.specs.Held.{held-edges}
+use Rattle.storage.specs.Edges.{stored-edges}
 use Rattle.plan.specs.declared.rules.Options.{Options}
 use Rattle.plan.specs.declared.rules.Ruled.{Ruled}
 use Rattle.plan.specs.Visit.{with-options, rule, loosened, refusal-number}
@@ -41,7 +41,7 @@ returns-2 c =
     let a = r .before .before .args in
     let here = r .before .before .pre .0 .2 in
     let ps = stored-steps (now (a .steps)) (a .n-steps) in
-    let ds = held-edges (now (a .consumer)) (now (a .slot)) (now (a .producer)) (now (a .unordered)) (a .edges) in
+    let ds = stored-edges (now (a .consumer)) (now (a .slot)) (now (a .producer)) (now (a .unordered)) (a .edges) in
     let reads = c .before .before .before .before .before .before .rule-of .ensures ∙ ap (λ (x : Options). rule rust-functions x (a .e) (a .o)) here in (
       sym (r .if1 .left) ∙ r .before .refusal-of .ensures ∙ ap (λ (x : Options). refusal-number x (a .o)) here,
       (

@@ -1,6 +1,6 @@
 use Rattle.simplify_ordering.proofs.VisitLaws.{tests-read, goes-is, goes-on, goes-away, here-is, edges-held, unlinkable, settle-asked}
 use Rattle.simplify_ordering.specs.Run.{run-of}
-use Rattle.node_rules.specs.Held.{held-edges}
+use Rattle.storage.specs.Edges.{stored-edges}
 use Rattle.storage.specs.Stored.{arena-of, stored-steps}
 use lib.Dec.{T}
 use mathlib.Core.List.{[]}
@@ -39,7 +39,7 @@ unlink-node-requires c κs =
     let s = c .before .before .before .before .before .before .before .before .before .before .before in
     let a = s .args in
     let ps = stored-steps (now (a .steps)) (a .n-steps) in
-    let ds = held-edges (now (a .consumer)) (now (a .slot)) (now (a .producer)) (now (a .unordered)) (a .edges) in
+    let ds = stored-edges (now (a .consumer)) (now (a .slot)) (now (a .producer)) (now (a .unordered)) (a .edges) in
     let es = arena-of (now (a .recs)) (now (a .line)) (now (a .off)) (a .exprs) in
     let g = c .before .before .before .before .goes in
     let o = c .before .before .before .before .before .before .before .before .before .options-of in
@@ -57,7 +57,7 @@ returns c =
     let s = c .before .before .before .before .before .before .before .before .before .before .before .before .before in
     let a = s .args in
     let ps = stored-steps (now (a .steps)) (a .n-steps) in
-    let ds = held-edges (now (a .consumer)) (now (a .slot)) (now (a .producer)) (now (a .unordered)) (a .edges) in
+    let ds = stored-edges (now (a .consumer)) (now (a .slot)) (now (a .producer)) (now (a .unordered)) (a .edges) in
     let es = arena-of (now (a .recs)) (now (a .line)) (now (a .off)) (a .exprs) in
     let g = c .before .before .before .before .before .before .goes in
     let o = c .before .before .before .before .before .before .before .before .before .before .before .options-of in
@@ -76,7 +76,7 @@ settle-requires c κs =
     let s = c .before .before .before .before .before .before .before .before .before .before .before .before .before .before in
     let a = s .args in
     let ps = stored-steps (now (a .steps)) (a .n-steps) in
-    let ds = held-edges (now (a .consumer)) (now (a .slot)) (now (a .producer)) (now (a .unordered)) (a .edges) in
+    let ds = stored-edges (now (a .consumer)) (now (a .slot)) (now (a .producer)) (now (a .unordered)) (a .edges) in
     let es = arena-of (now (a .recs)) (now (a .line)) (now (a .off)) (a .exprs) in
     let g = c .before .before .before .before .before .before .before .goes in
     let o = c .before .before .before .before .before .before .before .before .before .before .before .before .options-of in
@@ -90,7 +90,7 @@ returns-2 c =
     let s = c .before .before .before .before .before .before .before .before .before .before .before .before .before .before .before in
     let a = s .args in
     let ps = stored-steps (now (a .steps)) (a .n-steps) in
-    let ds = held-edges (now (a .consumer)) (now (a .slot)) (now (a .producer)) (now (a .unordered)) (a .edges) in
+    let ds = stored-edges (now (a .consumer)) (now (a .slot)) (now (a .producer)) (now (a .unordered)) (a .edges) in
     let es = arena-of (now (a .recs)) (now (a .line)) (now (a .off)) (a .exprs) in
     let g = c .before .before .before .before .before .before .before .before .goes in
     let o = c .before .before .before .before .before .before .before .before .before .before .before .before .before .options-of in

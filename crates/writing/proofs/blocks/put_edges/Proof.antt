@@ -1,13 +1,14 @@
 use mathlib.Core.Path.{_≡_}
+use mathlib.Core.List.{List}
 use denote.Ref.{now}
-use Prim.Native.Nat.{_*_, _-_, _≤_}
+use Prim.Native.Nat.{ℕ, _*_, _-_, _≤_}
 use native.Mathlib.Omega.{arith}
 use borrow.Author.Needs.{needs}
 use lib.ListN.{length}
 use Rattle.plan.specs.Lists.{concat-map}
 use Rattle.plan.specs.Text.{edge-line}
 use Rattle.storage.specs.Stored.{table}
-use Rattle.writing.specs.Blocks.{stored-edge, stored-edges}
+use Rattle.storage.specs.Edges.{stored-edge, stored-edges}
 use Rattle.writing.specs.Wrote.{Wrote}
 use Rattle.writing.proofs.EdgeLine.{edge-wrote}
 use Rattle.writing.proofs.Over.{no-entry, next-entry, all-entries}
@@ -16,13 +17,15 @@ use Rattle.writing.proofs.blocks.put_edges.Tie as tie
 
 abbrev Inv-loop : tie.InvT-loop
 Inv-loop out₀ consumer slot unordered n len₀ i₀ out len i =
-    (i ≤ n) × (len ≤ 14 * i) × (length out ≡ length out₀) × Wrote (concat-map edge-line (table (stored-edge consumer slot unordered) 0 i)) out₀ out len
+    (i ≤ n) × (len ≤ 14 * i) × (length out ≡ length out₀) × ((producer : List ℕ) → Wrote (concat-map edge-line (table (stored-edge consumer slot producer unordered) 0 i)) out₀ out len)
 
 abbrev μ-loop : tie.MeasureT-loop
 μ-loop out₀ consumer slot unordered n len₀ i₀ out len i = n - i
 
 loop-holds : tie.Need-loop-holds Inv-loop μ-loop
-loop-holds c = (omega arith, omega arith, omega arith, no-entry edge-line (stored-edge (now (c .before .args .consumer)) (now (c .before .args .slot)) (now (c .before .args .unordered))) _)
+loop-holds c =
+    let a = c .before .args in
+    (omega arith, omega arith, omega arith, λ producer. no-entry edge-line (stored-edge (now (a .consumer)) (now (a .slot)) producer (now (a .unordered))) _)
 
 sub-put-edge : tie.Need-sub-put-edge Inv-loop μ-loop
 sub-put-edge c = search needs
@@ -55,19 +58,25 @@ loop-less : tie.Need-loop-less Inv-loop μ-loop
 loop-less c = search needs
 
 loop-again : tie.Need-loop-again Inv-loop μ-loop
-loop-again c = (
-  omega arith,
-  omega arith,
-  search needs,
-  next-entry edge-line (stored-edge (now (c .before .before .before .before .before .before .before .before .before .before .args .consumer)) (now (c .before .before .before .before .before .before .before .before .before .before .args .slot)) (now (c .before .before .before .before .before .before .before .before .before .before .args .unordered))) (c .before .before .before .before .before .before .before .before .loop .i) _ _ _ _ _ (c .before .before .before .before .before .before .before .before .loop .inv .3) (edge-wrote (now (c .before .before .before .before .before .before .before .before .before .before .args .consumer)) (now (c .before .before .before .before .before .before .before .before .before .before .args .slot)) (now (c .before .before .before .before .before .before .before .before .before .before .args .unordered)) _ _ _ _ (c .before .before .put-edge .ensures .0)),
-)
+loop-again c =
+    let a = c .before .before .before .before .before .before .before .before .before .before .args in
+    let l = c .before .before .before .before .before .before .before .before .loop in (
+      omega arith,
+      omega arith,
+      search needs,
+      λ producer. next-entry edge-line (stored-edge (now (a .consumer)) (now (a .slot)) producer (now (a .unordered))) (l .i) _ _ _ _ _ (l .inv .3 producer)
+          (edge-wrote (now (a .consumer)) (now (a .slot)) producer (now (a .unordered)) _ _ _ _ (c .before .before .put-edge .ensures .0)),
+    )
 
 same-length : tie.Need-same-length Inv-loop μ-loop
 same-length c = search needs
 
 returns : tie.Need-returns Inv-loop μ-loop
 unfolding stored-edges
-returns c = (all-entries edge-line (stored-edge (now (c .before .before .before .args .consumer)) (now (c .before .before .before .args .slot)) (now (c .before .before .before .args .unordered))) (c .before .before .before .args .n) (c .before .loop .i) _ _ _ (omega arith) (c .before .loop .inv .3), omega arith)
+returns c =
+    let a = c .before .before .before .args in
+    let l = c .before .loop in
+    ((λ producer. all-entries edge-line (stored-edge (now (a .consumer)) (now (a .slot)) producer (now (a .unordered))) (a .n) (l .i) _ _ _ (omega arith) (l .inv .3 producer)), omega arith)
 
 pub put-edges-spec : {M : Type 1} → statement M
 put-edges-spec =
