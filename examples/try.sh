@@ -82,7 +82,7 @@ try_stack() {
     most="$("$work/stack" "$work/deep" "$work/sheets"/* | tail -n 1)"
     echo "stack of a call, $most"
     most="${most#*: }"
-    [ "${most% bytes}" -le $((96 * 1024)) ] || fail 'more stack than include/simplify_ordering.h says'
+    [ "${most% bytes}" -le $((64 * 1024)) ] || fail 'more stack than include/simplify_ordering.h says'
 }
 
 rm -rf "$work"

@@ -34,7 +34,7 @@ enum simplify_ordering_answer {
    behind it are as they were. For 1 to 11, *finished is 0 and every byte of `out` is as it was.
    No pointer may be null, not even with a length of 0. `out` and *finished overlap neither each other nor the sheet, and
    nobody else writes to any of the three before the call returns. It keeps no pointer and no state.
-   It takes at most 96 KiB of stack. */
+   It takes at most 64 KiB of stack. */
 uint8_t simplify_ordering_finish(const uint8_t *sheet, size_t sheet_length, uint8_t *out, size_t out_length,
                                  size_t *finished);
 
@@ -49,7 +49,7 @@ enum simplify_ordering_verdict {
    For a refusal, with the numbers of simplify_ordering_answer, every byte of `out` is as it was; the paper has no part in it.
    No pointer may be null, not even with a length of 0. The sheet and the paper are only read, and may overlap; `out` overlaps
    neither, and nobody else writes to any of the three before the call returns. It keeps no pointer and no state.
-   It takes at most 96 KiB of stack. */
+   It takes at most 64 KiB of stack. */
 uint8_t simplify_ordering_mark(const uint8_t *sheet, size_t sheet_length, const uint8_t *paper, size_t paper_length,
                                uint8_t *out, size_t out_length);
 
