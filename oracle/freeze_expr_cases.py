@@ -1,23 +1,22 @@
 #!/usr/bin/env python3
-"""Freezes lists of expressions with what the Rust's looks make of them, for the crate expr_cases.
+"""Freezes lists of expressions with what the Rust's looks make of them, for the crate cases.
 
-    oracle/freeze_expr_cases.py crates/expr_cases/data
+    oracle/freeze_expr_cases.py
 
-It writes the files 'kinds', 'trees' and 'chains' there. Each sheet has one step with expressions, and a case is the first list that the
-Rust looks at in its run, so that the records before it are those of the sheet. A case is
+It writes the folder lists of crates/cases/data, and its block of crates/cases/stdout. Each sheet has one step with expressions, and a
+case is the first list that the Rust looks at in its run, so that the records before it are those of the sheet.
 
-    2 bytes each, the high one first: the lengths of the sheet and of the records after the list; the looks
-    1 byte each: allow_deordering_top, the answer, what was internally observed (1 for COLUMN, 2 for INDEPENDENT), the number of entries
-    the sheet, the entries, and the records after the list: for each its length and K, S, L, a and the children
-
-Sheets in which no list is looked at, as with a removed Sort, are left out, and those to which a GroupBy's Implodes are appended. The program reads
-65536 bytes of each file at most. The oracle has to be built first (README, 'Comparing with the Rust').
+Sheets in which no list is looked at, as with a removed Sort, are left out, and those to which a GroupBy's Implodes are appended.
+The oracle has to be built first (README, 'Comparing with the Rust').
 """
 import collections
 import pathlib
 import random
 import subprocess
 import sys
+
+sys.dont_write_bytecode = True
+from frame import freeze, two
 
 ORACLE = pathlib.Path(__file__).resolve().parent / "target" / "release" / "oracle"
 MARK = b"---\n"
@@ -152,10 +151,6 @@ def chains():
     yield from both([chain(FUNCTION, 15, SORTED, l=1, a=k) for k in (0, 1, 2, 4, 6, 20, 32)])
 
 
-def two(n):
-    return bytes(divmod(n, 256))
-
-
 def numbers(line):
     return [int(x) for x in line.split(",")[1:]]
 
@@ -173,26 +168,22 @@ def case(given, answer):
     if len(after) != given.count(b"E,"):
         return None
     records = b"".join(bytes([len(r), *r]) for r in after)
-    head = two(len(given)) + two(len(records)) + two(looks) + bytes([allow, answer, observed, len(entries)])
-    return head + given + bytes(entries) + records
+    return given, bytes([allow, *entries]), two(looks) + bytes([answer, observed]) + records
 
 
-def freeze(path, sheets):
+def frozen(name, sheets):
+    """The cases of these sheets, each sheet once."""
     sheets = list(dict.fromkeys(sheets))
     given = b"".join(s + MARK for s in sheets)
     answers = subprocess.run([ORACLE, "--batch", "--list"], input=given, stdout=subprocess.PIPE, check=True).stdout.split(MARK)
     kept = [c for c in map(case, sheets, answers) if c]
-    data = b"".join(kept)
-    print(f"{path}: {len(kept)} of {len(sheets)} sheets, {len(data)} bytes", file=sys.stderr)
-    assert len(data) <= 65536
-    path.write_bytes(data)
+    print(f"{name}: {len(kept)} of {len(sheets)} sheets", file=sys.stderr)
+    return kept
 
 
 def main():
-    folder = pathlib.Path(sys.argv[1])
-    freeze(folder / "kinds", [*by_hand(), *each_kind()])
-    freeze(folder / "trees", random_lists())
-    freeze(folder / "chains", chains())
+    by_kind = frozen("kinds", [*by_hand(), *each_kind()])
+    freeze("lists", by_kind + frozen("trees", random_lists()) + frozen("chains", chains()))
 
 
 main()

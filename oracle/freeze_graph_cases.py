@@ -1,15 +1,17 @@
 #!/usr/bin/env python3
-"""Freezes plans with the Rust's visiting lists and edges, for the crate ir_graph_cases.
+"""Freezes plans with the Rust's visiting lists and edges, for the crate cases.
 
-    oracle/freeze_graph_cases.py > crates/ir_graph_cases/data/cases
+    oracle/freeze_graph_cases.py
 
-A case is three numbers of two bytes, the high one first: the lengths of the sheet, of the visiting list and of the edges; then
-these three, a consumer and a slot for each edge. Sheets that the oracle refuses are left out. The program reads 65536 bytes at most.
+It writes the folder graph of crates/cases/data, and its block of crates/cases/stdout. Sheets that the oracle refuses are left out.
 The oracle has to be built first (README, 'Comparing with the Rust').
 """
 import pathlib
 import subprocess
 import sys
+
+sys.dont_write_bytecode = True
+from frame import freeze, two
 
 BIN = pathlib.Path(__file__).resolve().parent / "target" / "release"
 MARK = b"---\n"
@@ -31,16 +33,12 @@ def run(name, *words, given=b""):
     return subprocess.run([BIN / name, *words], input=given, stdout=subprocess.PIPE, check=True).stdout
 
 
-def two(n):
-    return bytes(divmod(n, 256))
-
-
 def case(sheet, answer):
     lines = answer.decode().splitlines()
     places = bytes(map(int, lines[0].split(",")[1:]))
     edges = [line.split(",") for line in lines[1:] if line.startswith("G,")]
     pairs = bytes(int(x) for e in edges for x in e[1:3])
-    return two(len(sheet)) + two(len(places)) + two(len(pairs)) + sheet + places + pairs
+    return sheet, b"", two(len(places)) + places + pairs
 
 
 def main():
@@ -50,9 +48,7 @@ def main():
     answers = run("oracle", "--batch", "--graph", given=b"".join(s + MARK for s in sheets)).split(MARK)
     kept = [case(s, a) for s, a in zip(sheets, answers) if a.startswith(b"V,")]
     print(f"{len(kept)} of {len(sheets)} sheets are accepted", file=sys.stderr)
-    data = b"".join(kept)
-    assert len(data) <= 65536
-    sys.stdout.buffer.write(data)
+    freeze("graph", kept)
 
 
 main()

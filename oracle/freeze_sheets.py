@@ -1,13 +1,9 @@
 #!/usr/bin/env python3
-"""Freezes sheets with the Rust's answers, for the crate replay.
+"""Freezes sheets with the Rust's answers, for the crate cases.
 
     oracle/freeze_sheets.py
 
-It writes crates/replay/data/cases, and crates/replay/stdout: what the program has to print.
-
-A case is seven bytes, then the sheet, then the finished sheet. The seven are the sheet's length, the length of the output
-to lend, the number of the refusal (0: finished) and the finished sheet's length: two bytes for a length, the high one first.
-The program takes sheets and outputs of up to 20,000 bytes.
+It writes the folder sheets of crates/cases/data, and its block of crates/cases/stdout. The program lends outputs of up to 20,000 bytes.
 
 The sheets of hand_made_sheets.py come first, in the order they stand in; then those of the generator. Of each sheet made by
 hand it is checked here that the oracle's answer holds the text it is to show, and of a 10 or 11 at which visit it comes; and
@@ -21,11 +17,10 @@ import subprocess
 import sys
 
 sys.dont_write_bytecode = True
+from frame import freeze, two
 from hand_made_sheets import ALL, LONGEST
 
-ROOT = pathlib.Path(__file__).resolve().parent.parent
-BIN = ROOT / "oracle" / "target" / "release"
-REPLAY = ROOT / "crates" / "replay"
+BIN = pathlib.Path(__file__).resolve().parent / "target" / "release"
 MARK = b"---\n"
 BATCHES = [("valid", 41, 150), ("small", 42, 200), ("limit", 43, 50), ("deep", 44, 60), ("near", 45, 120), ("noise", 46, 60)]
 
@@ -75,26 +70,22 @@ def generated(family, seed, count):
             print(f"left out: {family} {seed}, sheet {number}", file=sys.stderr)
 
 
-def two(n):
-    return bytes(divmod(n, 256))
-
-
 def number(answer):
     """The refusal's number; 0 for a finished sheet."""
     return int(answer[2:]) if answer.startswith(b"R,") else 0
 
 
-def case_bytes(sheet, n, answer):
+def case_parts(sheet, n, answer):
+    assert n <= 20000
     finished = b"" if number(answer) else answer
-    assert len(sheet) <= 20000 and n <= 20000
-    return two(len(sheet)) + two(n) + bytes([number(answer)]) + two(len(finished)) + sheet + finished
+    return sheet, two(n), bytes([number(answer)]) + finished
 
 
-def report(cases):
-    counts = collections.Counter(number(answer) for _, _, answer in cases)
-    assert sorted(counts) == list(range(12))
-    lines = [f"{len(cases)} of {len(cases)} agree", f"finished: {counts[0]}"]
-    return "\n".join(lines + [f"refused by {n}: {counts[n]}" for n in range(1, 12)]) + "\n"
+def counts(cases):
+    """How many are finished, and how many refused by each number."""
+    found = collections.Counter(number(answer) for _, _, answer in cases)
+    assert sorted(found) == list(range(12))
+    return f"finished: {found[0]}\n" + "".join(f"refused by {n}: {found[n]}\n" for n in range(1, 12))
 
 
 def main():
@@ -102,10 +93,7 @@ def main():
     for batch in BATCHES:
         cases += generated(*batch)
     assert max(len(answer) for _, _, answer in cases) == LONGEST
-    data = b"".join(case_bytes(*case) for case in cases)
-    assert len(data) < 1_500_000
-    (REPLAY / "data" / "cases").write_bytes(data)
-    (REPLAY / "stdout").write_text(report(cases))
+    freeze("sheets", [case_parts(*case) for case in cases], counts(cases))
 
 
 main()
