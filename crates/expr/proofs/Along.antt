@@ -1,9 +1,9 @@
--- One child more of a look along the children; its end; a record without children; what a record reads of the answers; and a leaf.
+-- One child more of a look along the children; its end; a record without children; and what a record reads of the answers.
 use mathlib.Core.Path.{_≡_, refl, _∙_}
 use Prim.Native.Nat.{ℕ, zero, suc, _+_, _<_, _≤_}
 use native.Mathlib.Omega.{arith}
 use native.Mathlib.Nat.{not-suc-le-zero}
-use mathlib.Core.Bool.{Bool, true, false, _&&_, _||_}
+use mathlib.Core.Bool.{Bool, true, false, _&&_}
 use mathlib.Core.List.{List, [], _∷_, _++_}
 use lib.Dec.{eqb}
 use lib.ListN.{length, getD, drop, length-append, drop-of-length-le, List·getD-append}
@@ -13,15 +13,15 @@ use Rattle.plan.specs.declared.aexpr.AExpr.{AExpr}
 use Rattle.plan.specs.declared.looks.Before.{Before}
 use Rattle.plan.specs.declared.orders.ExprOrderAcc.{ExprOrderAcc}
 use Rattle.plan.specs.declared.orders.ObservableOrders.{ObservableOrders}
-use Rattle.plan.specs.Kinds.{aexpr, same-aexpr}
+use Rattle.plan.specs.Kinds.{same-aexpr}
 use Rattle.plan.specs.Lists.{if_then_else_, first-last}
 use Rattle.plan.specs.Sheet.{Expr}
-use Rattle.plan.specs.Orders.{∅, COLUMN, INDEPENDENT, _∪_, no-orders, add}
-use Rattle.plan.specs.Look.{NO-DEORDER, Eos, with-field, before, in-order, after, plain, enter-struct, Look, look-along, look-along-children, look-ended}
+use Rattle.plan.specs.Orders.{no-orders, add}
+use Rattle.plan.specs.Look.{NO-DEORDER, Eos, with-field, in-order, after, enter-struct, Look, look-along, look-along-children}
 use Rattle.expr.specs.declared.seen.Seen.{Seen}
 use Rattle.expr.specs.declared.record.ExprRecord.{ExprRecord}
 use Rattle.expr.specs.Seen.{Sees}
-use Rattle.expr.specs.Tables.{answers, Leaf}
+use Rattle.expr.specs.Tables.{answers}
 use Rattle.expr.specs.Record.{record-of, Shaped, slot, child-at}
 use Rattle.expr.specs.Contract.{along-from}
 use Rattle.expr.proofs.Records.{children-length, children-at}
@@ -154,55 +154,3 @@ module _ (e : Expr) (allow : Bool) (field : ObservableOrders) where
     after-seen AExpr.Min = refl
     after-seen AExpr.Implode = rw (h .first)
     after-seen AExpr.AggGroups = rw (h .first)
-
--- A leaf -------------------------------------------------------------------------------------------------------------------------
-
--- what the definition does with a kind beside the answer
-pub record Leaf-kind (e : Expr) (allow : Bool) (k : AExpr) : Type 0 where
-  pub checks : before e allow k .checks ≡ false
-  pub sort : same-aexpr k AExpr.Sort ≡ false
-  pub sort-by : same-aexpr k AExpr.SortBy ≡ false
-  pub implode : same-aexpr k AExpr.Implode ≡ false
-
-pub leaf-kind : (e : Expr) (allow : Bool) (k : ℕ) → k < 5 → Leaf-kind e allow (aexpr k)
-unfolding before
-leaf-kind e allow zero h = record { checks = refl; sort = refl; sort-by = refl; implode = refl }
-leaf-kind e allow (suc zero) h = record { checks = refl; sort = refl; sort-by = refl; implode = refl }
-leaf-kind e allow (suc (suc zero)) h = record { checks = refl; sort = refl; sort-by = refl; implode = refl }
-leaf-kind e allow (suc (suc (suc zero))) h = record { checks = refl; sort = refl; sort-by = refl; implode = refl }
-leaf-kind e allow (suc (suc (suc (suc zero)))) h = record { checks = refl; sort = refl; sort-by = refl; implode = refl }
-leaf-kind e allow (suc (suc (suc (suc (suc k))))) h = absurd (omega arith)
-
-module _ (scalar : Bool) (field : ObservableOrders) where
-  pub leaf-column : Leaf 0 scalar field COLUMN
-  unfolding after
-  leaf-column = record { is = λ e allow h. refl }
-
-  pub leaf-literal : Leaf 1 scalar field (if scalar then ∅ else INDEPENDENT)
-  unfolding after
-  leaf-literal = record { is = λ e allow h. rw h }
-
-  pub leaf-element : Leaf 2 scalar field INDEPENDENT
-  unfolding after
-  leaf-element = record { is = λ e allow h. refl }
-
-  pub leaf-struct-field : Leaf 3 scalar field field
-  unfolding after
-  leaf-struct-field = record { is = λ e allow h. refl }
-
-  pub leaf-len : Leaf 4 scalar field ∅
-  unfolding after
-  leaf-len = record { is = λ e allow h. refl }
-
-or-false : (a : Bool) → (a || false) ≡ a
-or-false true = refl
-or-false false = refl
-
-nothing-more : (o : ObservableOrders) → o ∪ ∅ ≡ o
-nothing-more o = rw (or-false (o .column), or-false (o .independent))
-
--- its end changes nothing
-pub leaf-ended : (p : ℕ) (e : Expr) (o : ObservableOrders) (s : Eos) → same-aexpr (e .kind) AExpr.Implode ≡ false
-    → look-ended p e (plain o) o (s .struct-field-ordering) [] (enter-struct e [] s) ≡ s
-unfolding look-ended
-leaf-ended p e o s h = rw (h, nothing-more (s .internally-observed))

@@ -6,6 +6,7 @@ pub mod Laws
 pub mod Along
 pub mod States
 pub mod Ways
+pub mod Leaves
 pub mod Children
 pub mod Starts
 pub mod Projections

@@ -27,6 +27,7 @@ use Rattle.expr.specs.Cache.{cache-of}
 use Rattle.expr.specs.State.{State, state, eos-of, Formed, Kept}
 use Rattle.expr.specs.Contract.{LookAsks, LookGives, Answers}
 use Rattle.expr.specs.Projected.{no-entries, Started, ListAsks, ListGives, List-reached}
+use Rattle.expr.proofs.Records.{and-left}
 use Rattle.expr.proofs.Starts.{all-same}
 use Rattle.expr.proofs.States.{kept-trans, formed-kept, owning, answering, kept-owning, length-eos, eos-answering, eos-observing, begun-none, begun-next}
 use Rattle.expr.proofs.Laws.{up-along, up-look}
@@ -182,12 +183,8 @@ module _ (recs : List ℕ) (n : ℕ) (s : State) (nodes : List ℕ) (count : ℕ
           abbrev node : ℕ
           node = x .acc .«last_ordered_node»
 
-          one : (a b : Bool) → (a && b) ≡ true → a ≡ true
-          one true b h = refl
-          one false b h = h
-
           near : node < n
-          near = g .begun .near (omega (arith, eqb-true (x .acc .«num_ordered_inputs») 1 (one (single (x .acc)) allow twice)))
+          near = g .begun .near (omega (arith, eqb-true (x .acc .«num_ordered_inputs») 1 (and-left (single (x .acc)) allow twice)))
 
           look-is : (tally : Tally) → simplify-projected-exprs entries allow (S tally) ≡ look n true node (eos-of tally recs n t₁)
           unfolding look-again

@@ -113,8 +113,22 @@ module _ (e : ExprRecord) (shaped : Shaped e) where
       unfolding all?
       all-yes k = rw (rest-is, k)
 
+-- Of Bools --------------------------------------------------------------------------------------------------------------------
+
 pub no : false ≡ true → ⊥
 no h = let z : _≡_ {A = ℕ} 0 1 = cc in omega arith
+
+pub and-left : (a b : Bool) → (a && b) ≡ true → a ≡ true
+and-left true b h = refl
+and-left false b h = h
+
+pub and-right : (a b : Bool) → (a && b) ≡ true → b ≡ true
+and-right true b h = h
+and-right false b h = absurd (no h)
+
+pub or-false : (a : Bool) → (a || false) ≡ a
+or-false true = refl
+or-false false = refl
 
 -- The three ways of the test for a replacement
 pick-sort : (allow s b a : Bool) → (allow && s) ≡ true → true ≡ (allow && (s || (b && a)))

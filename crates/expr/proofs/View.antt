@@ -16,6 +16,7 @@ use Rattle.storage.specs.Stored.{held-expr, arena-of}
 use Rattle.storage.proofs.Laws.{length-arena, table-at}
 use Rattle.expr.specs.Cache.{packed, entry-of, cache-of}
 use Rattle.expr.specs.Record.{held}
+use Rattle.expr.proofs.Records.{or-false}
 
 -- The arena ----------------------------------------------------------------------------------------------------------------------
 
@@ -57,10 +58,6 @@ module _ (recs : List ℕ) (n : ℕ) where
     unfolding held
     off-or l true = refl
     off-or l false = refl
-
-    or-false : (a : Bool) → (a || false) ≡ a
-    or-false true = refl
-    or-false false = refl
 
     pub arena-off : (x : Bool) → p < length off
         → arena-of recs line (set off p (getD off p false || x)) n

@@ -1,25 +1,25 @@
 -- What the code's look asks and gives, a law for each way through it.
-use mathlib.Core.Path.{_≡_, refl, sym, ap, _∙_, subst}
+use mathlib.Core.Path.{_≡_, refl, sym, ap, _∙_}
 use Prim.Native.Nat.{ℕ, zero, suc, _+_, _*_, _<_, _≤_, _^_}
 use native.Mathlib.Nat.{le-of-lt, lt-of-le-of-lt, lt-of-lt-of-le}
 use native.Mathlib.Omega.{arith}
 use mathlib.Core.Bool.{Bool, true, false, _&&_, _||_, not}
 use mathlib.Core.List.{List, [], _∷_}
 use mathlib.Core.Option.{Option, none, some}
-use lib.Dec.{eqb, ltb}
+use lib.Dec.{eqb}
 use lib.ListN.{length, getD}
 use lib.Seq.{getD-set-same}
-use borrow.Author.Tests.{eqb-true, ltb-true}
+use borrow.Author.Tests.{eqb-true}
 use Rattle.plan.specs.declared.aexpr.AExpr.{AExpr}
 use Rattle.plan.specs.declared.looks.Before.{Before}
 use Rattle.plan.specs.declared.orders.ExprOrderAcc.{ExprOrderAcc}
 use Rattle.plan.specs.declared.orders.ObservableOrders.{ObservableOrders}
 use Rattle.plan.specs.declared.tally.Tally.{Tally}
-use Rattle.plan.specs.Kinds.{aexpr, same-aexpr}
+use Rattle.plan.specs.Kinds.{same-aexpr}
 use Rattle.plan.specs.Lists.{if_then_else_, all?}
 use Rattle.plan.specs.Sheet.{Expr, expr-at}
-use Rattle.plan.specs.Orders.{no-orders, single}
-use Rattle.plan.specs.Look.{one-look, before, in-order, check-return-cached, is-replaced, replace-by-input, after, enter-struct, look-again, look-along-children, look-ended, look}
+use Rattle.plan.specs.Orders.{single}
+use Rattle.plan.specs.Look.{one-look, before, check-return-cached, is-replaced, replace-by-input, after, look-again, look-along-children, look-ended, look}
 use Rattle.plan.specs.Look as plan
 use Rattle.storage.specs.Stored.{stored-expr, Expr-formed}
 use Rattle.expr.specs.declared.after.After.{After}
@@ -27,22 +27,14 @@ use Rattle.expr.specs.declared.record.ExprRecord.{ExprRecord}
 use Rattle.expr.specs.Cache.{unpacked, cache-of}
 use Rattle.expr.specs.Record.{record-of, held, IsHeld}
 use Rattle.expr.specs.State.{State, eos-of, Falls, Based, Formed, Kept, Readable, sorts, preserves, is-replaced-line}
-use Rattle.expr.specs.Tables.{output-of, after-of, answers, Leaf}
+use Rattle.expr.specs.Tables.{output-of, after-of, answers}
 use Rattle.expr.specs.Contract.{Walked, looked-of, LookAsks, LookGives, answer-by, AgainAsks, AgainGives, ended-by, Ended, Answers, reach, AlongAsks, IsWalk, AlongGives}
-use Rattle.expr.proofs.Records.{no, stored, above-least}
+use Rattle.expr.proofs.Records.{no, and-left, and-right, stored, above-least}
 use Rattle.expr.proofs.States.{kept-trans, formed-kept, counted, answering, copied, kept-owning, kept-copied, eos-cache, eos-field, eos-looks, eos-counted, eos-answering, same-field, eos-at, eos-copied}
-use Rattle.expr.proofs.Laws.{finish, after-answers, finish-done, look-hit, look-copied, look-rest, up-finish, up-look, up-count}
-use Rattle.expr.proofs.Along.{none-in-order, children-from, along-none, after-seen, Leaf-kind, leaf-kind, leaf-ended}
+use Rattle.expr.proofs.Laws.{finish, after-answers, look-hit, look-copied, look-rest, up-finish, up-look, up-count}
+use Rattle.expr.proofs.Along.{after-seen}
 
 -- Of Bools and lists -------------------------------------------------------------------------------------------------------------
-
-and-left : (a b : Bool) → (a && b) ≡ true → a ≡ true
-and-left true b h = refl
-and-left false b h = h
-
-and-right : (a b : Bool) → (a && b) ≡ true → b ≡ true
-and-right true b h = h
-and-right false b h = absurd (no h)
 
 all-same : (f g : ℕ → Bool) (xs : List ℕ) → ((k : ℕ) → k < length xs → f (getD xs k 0) ≡ g (getD xs k 0)) → all? f xs ≡ all? g xs
 unfolding all?
@@ -80,20 +72,15 @@ again-single e allow field os x AExpr.AggGroups h = absurd (no h)
 
 -- A base record ------------------------------------------------------------------------------------------------------------------
 
-held-children : (recs : List ℕ) (l : ℕ) (off : Bool) → held recs l off .children ≡ stored-expr recs l .children
+pub held-children : (recs : List ℕ) (l : ℕ) (off : Bool) → held recs l off .children ≡ stored-expr recs l .children
 unfolding held
 held-children recs l true = refl
 held-children recs l false = refl
 
-held-kind : (recs : List ℕ) (l : ℕ) (off : Bool) → held recs l off .kind ≡ stored-expr recs l .kind
+pub held-kind : (recs : List ℕ) (l : ℕ) (off : Bool) → held recs l off .kind ≡ stored-expr recs l .kind
 unfolding held
 held-kind recs l true = refl
 held-kind recs l false = refl
-
-held-scalar : (recs : List ℕ) (l : ℕ) (off : Bool) → held recs l off .scalar ≡ stored-expr recs l .scalar
-unfolding held
-held-scalar recs l true = refl
-held-scalar recs l false = refl
 
 held-length-preserving : (recs : List ℕ) (l : ℕ) (off : Bool) → held recs l off .length-preserving ≡ stored-expr recs l .length-preserving
 unfolding held
@@ -134,84 +121,7 @@ module _ (recs : List ℕ) (n : ℕ) (s : State) (p : ℕ) (allow : Bool) (r : L
       go zero h k = absurd (omega arith)
       go (suc f) h k = omega (arith, eos-looks (r .tally) recs n s, up-count f allow p (S (r .tally)), k)
 
-  -- A leaf: k is the number of its kind, and it has no children ------------------------------------------------------------------
-
-  module _ (leafy : (ltb (getD recs (l * 16) 0) 5 && eqb (getD recs (l * 16 + 12) 0) 0) ≡ true) where
-    abbrev k : ℕ
-    k = getD recs (l * 16) 0
-
-    pub leaf-number : k < 5
-    leaf-number = ltb-true k 5 (and-left (ltb k 5) _ leafy)
-
-    module _ (o : ObservableOrders) (o-is : Leaf k (eqb (getD recs (l * 16 + 1) 0) 1) (s .own .field) o) where
-      abbrev leaf-expr : Expr
-      leaf-expr = held recs l (getD (s .off) p false)
-
-      leaf-stored : stored-expr recs l
-          ≡ record {
-            kind = aexpr k;
-            scalar = eqb (getD recs (l * 16 + 1) 0) 1;
-            length-preserving = stored-expr recs l .length-preserving;
-            option = stored-expr recs l .option;
-            children = [];
-          }
-      leaf-stored =
-          let none-there : getD recs (l * 16 + 12) 0 ≡ 0 = eqb-true (getD recs (l * 16 + 12) 0) 0 (and-right (ltb k 5) _ leafy) in
-          rw (stored recs l (line-room recs n s p (r .based) (r .formed) (r .within)) (line-formed recs n s p (r .based) (r .formed) (r .within)), none-there)
-
-      leaf-kind-is : leaf-expr .kind ≡ aexpr k
-      leaf-kind-is = held-kind recs l (getD (s .off) p false) ∙ ap (λ (x : Expr). x .kind) leaf-stored
-
-      leaf-scalar : leaf-expr .scalar ≡ eqb (getD recs (l * 16 + 1) 0) 1
-      leaf-scalar = held-scalar recs l (getD (s .off) p false) ∙ ap (λ (x : Expr). x .scalar) leaf-stored
-
-      leaf-children : leaf-expr .children ≡ []
-      leaf-children = held-children recs l (getD (s .off) p false) ∙ ap (λ (x : Expr). x .children) leaf-stored
-
-      K : Leaf-kind leaf-expr allow (leaf-expr .kind)
-      K = subst (Leaf-kind leaf-expr allow) (sym leaf-kind-is) (leaf-kind leaf-expr allow k leaf-number)
-
-      and-no : (a : Bool) → (a && false) ≡ false
-      and-no true = refl
-      and-no false = refl
-
-      module _ (tally : Tally) (f : ℕ) where
-        abbrev D₀ : Answers
-        D₀ = ([], no-orders, enter-struct leaf-expr [] (one-look (S tally)))
-
-        leaf-unasked : check-return-cached (before leaf-expr allow (leaf-expr .kind)) p (one-look (S tally)) ≡ none
-        unfolding check-return-cached
-        leaf-unasked = rw (K .checks)
-
-        leaf-stays : is-replaced (S tally .expr-arena) leaf-expr allow ≡ false
-        unfolding is-replaced
-        leaf-stays = rw (K .sort, K .sort-by) (and-no allow)
-
-        leaf-queue : in-order (before leaf-expr allow (leaf-expr .kind)) (leaf-expr .children) ≡ []
-        leaf-queue = none-in-order (before leaf-expr allow (leaf-expr .kind)) (leaf-expr .children) leaf-children
-
-        leaf-after : after-answers allow leaf-expr (S tally .struct-field-ordering) D₀ ≡ plan.plain o
-        leaf-after =
-            ap (after leaf-expr allow (S tally .struct-field-ordering) [] no-orders) leaf-kind-is
-            ∙ rw (eos-field tally recs n s) (o-is .is leaf-expr allow leaf-scalar)
-
-        leaf-whole : look (suc f) allow p (S tally) ≡ (o, one-look (S tally))
-        leaf-whole =
-            look-rest f allow p (S tally) leaf-expr (sym (eos-at tally recs n s p (r .within))) leaf-unasked leaf-stays
-            ∙ rw (children-from (look f) leaf-expr (before leaf-expr allow (leaf-expr .kind)) (one-look (S tally)), along-none (look f) leaf-expr (before leaf-expr allow (leaf-expr .kind)) [] no-orders (one-look (S tally)) leaf-queue)
-            (ap (finish (look f) p leaf-expr (S tally .struct-field-ordering) D₀) leaf-after
-            ∙ finish-done (look f) p leaf-expr (S tally .struct-field-ordering) D₀ (plan.plain o) refl
-            ∙ ap (λ (z : plan.Eos). (o, z)) (leaf-ended p leaf-expr o (one-look (S tally)) (K .implode)))
-
-      leaf-is : (tally : Tally) (f : ℕ) → l < f → looked-of tally recs n (answering o (counted s)) ≡ look f allow p (S tally)
-      leaf-is tally zero h = absurd (omega arith)
-      leaf-is tally (suc f) h = rw (eos-answering tally recs n (counted s) o, eos-counted tally recs n s) (sym (leaf-whole tally f))
-
-      pub gives-leaf : LookGives recs n s p allow (answering o (counted s))
-      gives-leaf = record { is = leaf-is; kept = kept-owning _ s }
-
-  -- Another record, e ------------------------------------------------------------------------------------------------------------
-
+  -- its record is e
   module _ (e : ExprRecord) (is-e : IsHeld recs l (getD (s .off) p false) e) where
     abbrev E : Expr
     E = record-of e

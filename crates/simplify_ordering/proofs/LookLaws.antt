@@ -26,6 +26,7 @@ use Rattle.plan.specs.declared.tally.Tally.{Tally}
 use Rattle.expr.specs.Contract.{looked-of}
 use Rattle.expr.specs.declared.eos.Eos.{Eos}
 use Rattle.expr.specs.Projected.{no-entries, Started, ListAsks, ListGives}
+use Rattle.expr.proofs.Records.{and-left, and-right}
 use Rattle.expr.specs.State.{State, state, eos-of, Falls, Formed}
 use Rattle.simplify_ordering.specs.declared.looks.VisitLooks.{VisitLooks}
 use Rattle.storage.specs.declared.steps.Entries.{Entries}
@@ -37,11 +38,6 @@ falls-below : (n : ℕ) (xs : List ℕ) → ((q : ℕ) → List·Memᴰ q xs →
 falls-below n xs there = record { child = λ k h. there (getD xs k 0) (mem-at xs k 0 h) }
 
 -- Two empty lists -----------------------------------------------------------------------------------------------------------------------
-
-both : (x y : Bool) → (x && y) ≡ true → (x ≡ true) × (y ≡ true)
-both true y h = (refl, h)
-both false true h = (h, refl)
-both false false h = (h, h)
 
 none-there : (e : Entries) (l : List ℕ) → Is-list l e → eqb (e .count) 0 ≡ true → l ≡ []
 none-there e l i h = sym (i .is) ∙ rw (eqb-true (e .count) 0 h)
@@ -59,12 +55,12 @@ module _ (recs line : List ℕ) (off : List Bool) (n : ℕ) (tally : Tally) (xs 
 
   module _ (none : (eqb (exprs .count) 0 && eqb (aggs .count) 0) ≡ true) where
     first-none : first xs allow es tally ≡ (∅, expr-order-simplifier es tally)
-    first-none = ap (λ (l : List ℕ). first l allow es tally) (none-there exprs xs (ask .exprs-are) (both (eqb (exprs .count) 0) (eqb (aggs .count) 0) none .0)) ∙ nothing-looked allow es tally
+    first-none = ap (λ (l : List ℕ). first l allow es tally) (none-there exprs xs (ask .exprs-are) (and-left (eqb (exprs .count) 0) (eqb (aggs .count) 0) none)) ∙ nothing-looked allow es tally
 
     second-none : second xs ys allow es tally ≡ (∅, expr-order-simplifier es tally)
     second-none =
         ap (λ (x : ObservableOrders × plan.Eos). simplify-projected-exprs ys false (x .1)) first-none
-        ∙ ap (λ (l : List ℕ). first l false es tally) (none-there aggs ys (ask .aggs-are) (both (eqb (exprs .count) 0) (eqb (aggs .count) 0) none .1))
+        ∙ ap (λ (l : List ℕ). first l false es tally) (none-there aggs ys (ask .aggs-are) (and-right (eqb (exprs .count) 0) (eqb (aggs .count) 0) none))
         ∙ nothing-looked false es tally
 
     pub nothing-given : Lists-give recs line off n tally xs ys allow line off (record { observable = record { exprs = ∅; aggs = ∅; internal = ∅ }; tally = tally; exprs = n })

@@ -1,6 +1,6 @@
 use mathlib.Core.Path.{_≡_}
 use native.Mathlib.Omega.{arith}
-use Rattle.expr.proofs.Along.{leaf-column, leaf-literal, leaf-element, leaf-struct-field, leaf-len}
+use Rattle.expr.proofs.Leaves.{leaf-column, leaf-literal, leaf-element, leaf-struct-field, leaf-len}
 use borrow.Author.Needs.{needs}
 use Rattle.expr.proofs.after.leaf.Statement.{statement}
 use Rattle.expr.proofs.after.leaf.Tie as tie

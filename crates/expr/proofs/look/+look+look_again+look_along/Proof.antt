@@ -9,7 +9,8 @@ use Rattle.expr.specs.Eos.{Own}
 use Rattle.expr.specs.State.{state}
 use Rattle.expr.specs.Contract.{reach, Reached}
 use Rattle.expr.proofs.States.{kept-owning}
-use Rattle.expr.proofs.Ways.{line-128, line-room, line-formed, count-fits, leaf-number, gives-leaf, e-reach, e-readable, gives-hit, child-128, copy-falls, copy-asks, gives-copy, along-asks, again-falls, again-asks, gives-whole, gives-twice, gives-once}
+use Rattle.expr.proofs.Ways.{line-128, line-room, line-formed, count-fits, e-reach, e-readable, gives-hit, child-128, copy-falls, copy-asks, gives-copy, along-asks, again-falls, again-asks, gives-whole, gives-twice, gives-once}
+use Rattle.expr.proofs.Leaves.{leaf-number, gives-leaf}
 use Rattle.expr.proofs.Children.{reached-none, along-gives, child-falls, child-asks, few-seen, reached-more}
 use Prim.Native.Nat.{ℕ, _+_, _*_, _-_, _<_}
 use borrow.Fn.Kinds.{In}
