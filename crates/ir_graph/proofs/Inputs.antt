@@ -1,22 +1,17 @@
 -- The inputs of a stored step, and pushing them one by one.
-use mathlib.Core.Path.{_≡_, sym, ap, _∙_}
+use mathlib.Core.Path.{_≡_}
 use mathlib.Core.List.{List, [], _∷_, _++_, append-assoc, append-nil}
 use Prim.Native.Nat.{ℕ, suc, _+_, _*_, _≤_, _<_}
 use native.Mathlib.Omega.{arith}
 use native.Mathlib.Numerals.{add-one}
 use lib.ListN.{length, getD, take, drop, set, length-take, length-drop}
 use lib.Seq.{take-suc, take-suc-set, take-all, getD-take, getD-drop, drop-drop}
-use Rattle.plan.specs.Kinds.{ir}
 use Rattle.plan.specs.Sheet.{step-of}
 use Rattle.storage.specs.Stored.{stored-step, Step-formed}
 use Rattle.ir_graph.specs.Pushed.{Pushed}
 
 abbrev pub inputs-of : List ℕ → ℕ → List ℕ
 inputs-of bytes i = stored-step bytes i .inputs
-
-pub stored-kind : (bytes : List ℕ) (i : ℕ) → ir (getD bytes (i * 32) 0) ≡ stored-step bytes i .kind
-unfolding stored-step step-of
-stored-kind bytes i = ap ir (ap (λ (j : ℕ). getD bytes j 0) (omega arith) ∙ sym (getD-drop (i * 32) bytes 0 0))
 
 inputs-there : (bytes : List ℕ) (i : ℕ) → inputs-of bytes i ≡ take (getD bytes (i * 32 + 4) 0) (drop (i * 32 + 7) bytes)
 unfolding stored-step step-of

@@ -7,9 +7,9 @@ ghost use Rattle.storage.specs.Stored.{stored-steps, Step-formed};
 ghost use Rattle.claims.specs.Plan.{Plan};
 ghost use Rattle.ir_graph.specs.UpdateCaches.{first-lines};
 use crate::hits::count_hits;
-use crate::stored::is_cache;
 use plan::sizes::size_32;
 use plan::sizes::size_288;
+use storage::steps::is_cache;
 
 // Are both Caches, with one id?
 fn one_id(steps: &[u8; 1024], n: usize, k: usize, m: usize) -> bool

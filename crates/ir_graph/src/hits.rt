@@ -11,9 +11,9 @@ ghost use Rattle.ir_graph.specs.Turns.{cached, pushed-by, hit};
 ghost use Rattle.ir_graph.specs.Hits.{Hits-counted, Met-noted};
 use crate::roots::push_roots;
 use crate::stored::copy_inputs;
-use crate::stored::is_cache;
 use plan::sizes::size_32;
 use plan::sizes::size_288;
+use storage::steps::is_cache;
 
 // The step i is popped: a Cache's hit is counted, and its inputs are pushed unless it is a Cache that was met before.
 fn meet(

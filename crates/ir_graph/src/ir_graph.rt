@@ -13,9 +13,9 @@ use crate::edges::link;
 use crate::hits::count_hits;
 use crate::roots::push_roots;
 use crate::stored::copy_inputs;
-use crate::stored::is_cache;
 use plan::sizes::size_32;
 use plan::sizes::size_288;
+use storage::steps::is_cache;
 
 // The inputs that follow the place of the step i: a Cache's follow at its last place.
 fn follow(

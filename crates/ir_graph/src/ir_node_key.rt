@@ -3,7 +3,7 @@ ghost use mathlib.Core.Path.{_≡_};
 ghost use Prim.Native.Nat.{_<_};
 ghost use Rattle.storage.specs.Stored.{stored-step};
 ghost use Rattle.ir_graph.specs.NodeKey.{node-key};
-use crate::stored::is_cache;
+use storage::steps::is_cache;
 
 // On an accepted sheet two steps with one key are one line (proofs/NodeKey), so the graph lets a step's line stand for its key.
 pub enum IRNodeKey {

@@ -4,8 +4,8 @@ ghost use Rattle.plan.specs.Graph.{sinks};
 ghost use Rattle.storage.specs.Stored.{stored-steps};
 ghost use Rattle.ir_graph.specs.Pushed.{Pushed};
 ghost use Rattle.ir_graph.specs.Turns.{root};
-use crate::stored::is_sink;
 use plan::sizes::size_288;
+use storage::steps::is_sink;
 
 // Pushes the step i if it is a root.
 fn push_root(steps: &[u8; 1024], i: usize, list: &mut [u8; 288], len: usize) -> usize

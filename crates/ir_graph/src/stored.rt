@@ -1,35 +1,10 @@
-// A step's kind and its inputs, read where the step is stored.
-ghost use mathlib.Core.Path.{_≡_};
+// A stored step's inputs, pushed onto a list.
 ghost use Prim.Native.Nat.{_+_, _≤_, _<_};
 ghost use lib.ListN.{length};
-ghost use Rattle.plan.specs.declared.ir.IR.{IR};
-ghost use Rattle.plan.specs.Kinds.{same-ir};
 ghost use Rattle.storage.specs.Stored.{stored-step, Step-formed};
 ghost use Rattle.ir_graph.specs.Pushed.{Pushed};
-use plan::ir::IR;
 use plan::sizes::size_288;
 use plan::sizes::size_1024;
-
-pub fn kind_of(steps: &[u8; 1024], i: usize) -> IR
-    requires { ⌜ i < 32 ⌝ }
-    ensures { λ r. ⌜ r ≡ stored-step (now (steps .entry)) i .kind ⌝ }
-{
-    IR::of_number(steps[i * 32])
-}
-
-pub fn is_cache(steps: &[u8; 1024], i: usize) -> bool
-    requires { ⌜ i < 32 ⌝ }
-    ensures { λ r. ⌜ r ≡ same-ir (stored-step (now (steps .entry)) i .kind) IR.Cache ⌝ }
-{
-    kind_of(steps, i).number() == 18
-}
-
-pub fn is_sink(steps: &[u8; 1024], i: usize) -> bool
-    requires { ⌜ i < 32 ⌝ }
-    ensures { λ r. ⌜ r ≡ same-ir (stored-step (now (steps .entry)) i .kind) IR.Sink ⌝ }
-{
-    kind_of(steps, i).number() == 2
-}
 
 // Pushes the step's inputs onto a list that holds `len` entries. The result is how many it holds then.
 pub fn copy_inputs(steps: &[u8; 1024], i: usize, list: &mut [u8; 288], len: usize) -> usize

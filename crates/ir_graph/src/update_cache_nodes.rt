@@ -5,8 +5,8 @@ ghost use lib.ListN.{take};
 ghost use Rattle.storage.specs.Stored.{stored-steps, Step-formed};
 ghost use Rattle.plan.specs.Graph.{update-cache-nodes};
 ghost use Rattle.ir_graph.specs.UpdateCaches.{line-met, update-cache-node, Updatable};
-use crate::stored::is_cache;
 use plan::sizes::size_1024;
+use storage::steps::is_cache;
 
 // Line m, if it is a Cache, takes the input of the line of its id that was met first.
 fn update_cache_node(steps: &mut [u8; 1024], n: usize, first: &[u8; 32], m: usize)

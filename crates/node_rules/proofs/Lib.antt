@@ -3,6 +3,4 @@ pub mod InEdges
 pub mod OutEdges
 pub mod Arounds
 pub mod EdgeChanges
-pub mod StoreLaws
 pub mod UnlinkLaws
-pub mod StepLaws

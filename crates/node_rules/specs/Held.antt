@@ -4,7 +4,7 @@ use Prim.Native.Nat.{ℕ, _+_, _*_, _-_, _≤_, _<_}
 use mathlib.Core.Bool.{Bool, true, false}
 use mathlib.Core.List.{List, map}
 use mathlib.Core.Option.{Option, none}
-use lib.ListN.{length, getD, set, take}
+use lib.ListN.{length, getD, set}
 use Rattle.plan.specs.Lists.{if_then_else_}
 use Rattle.plan.specs.Sheet.{Step, step-at}
 use Rattle.plan.specs.Graph.{Edge}
@@ -12,7 +12,6 @@ use Rattle.storage.specs.Stored.{table}
 use Rattle.plan.specs.declared.rules.Loosened.{Loosened}
 use Rattle.plan.specs.Visit as Visit
 use Rattle.node_rules.specs.declared.around.InEdges.{InEdges}
-use Rattle.node_rules.specs.declared.steps.Entries.{Entries}
 
 -- The edges into a step --------------------------------------------------------------------------------------------------------------
 
@@ -44,18 +43,6 @@ handed-on n from d =
 abbrev pub cut-off : ℕ → Edge → Edge
 cut-off n d =
     if Visit.is-into n d then record { consumer = d .consumer; slot = d .slot; producer = none; unordered = true } else d
-
--- The steps -----------------------------------------------------------------------------------------------------------------------
-
--- a step's n2 or n3 list, out of the bytes: the first `count` of the nodes
-pub record Is-list (xs : List ℕ) (e : Entries) : Type 0 where
-  pub is : take (e .count) (e .nodes) ≡ xs
-  pub few : e .count ≤ 8
-  pub room : length (e .nodes) ≡ 8
-
--- the steps, with another entry k in the n3 list of step i
-abbrev pub with-agg : ℕ → ℕ → ℕ → List Step → List Step
-with-agg i k agg ps = set ps i (Visit.with-aggs (set (step-at ps i .aggs) k agg) (step-at ps i))
 
 -- Edges and steps together ----------------------------------------------------------------------------------------------------------
 

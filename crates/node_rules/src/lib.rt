@@ -3,6 +3,4 @@ pub mod around; // around.rt: a step's edges as a visit finds them
 pub mod joins; // joins.rt: the rule of a Join
 pub mod loosen; // loosen.rt: the edges that a rule loosens
 pub mod rules; // rules.rt: what a visit makes of a step and its edges
-pub mod steps; // steps.rt: what a visit reads of a stored step
-pub mod store; // store.rt: what a visit changes of a stored step
 pub mod unlink; // unlink.rt: unlink_node

@@ -11,7 +11,7 @@ ghost use Rattle.storage.specs.Edges.{producer-of, stored-edges};
 ghost use Rattle.node_rules.specs.Held.{In-run, handed-on, cut-off, Edges-held, Unlinkable, Unlinked};
 use crate::around::InEdges;
 use crate::around::leaving_edge;
-use crate::store::store_input;
+use storage::store::store_input;
 
 fn pick(b: bool, x: u8, y: u8) -> u8
     ensures { λ r. ⌜ r ≡ (if b then x else y) ⌝ }

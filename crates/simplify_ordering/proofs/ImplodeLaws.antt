@@ -18,7 +18,7 @@ use Rattle.plan.specs.Visit.{implode, implode-over, with-aggs}
 use Rattle.expr.specs.State.{Falls, sorts}
 use Rattle.expr.proofs.Records.{stored}
 use Rattle.simplify_ordering.specs.Arena.{Arena-held}
-use Rattle.node_rules.specs.Held.{with-agg}
+use Rattle.storage.specs.Steps.{with-agg}
 
 module _ (recs line : List ℕ) (off : List Bool) (n q : ℕ) (held : Arena-held recs line off n) (more : n < 128) (lower : q < n) where
   -- the six bytes, with the first at p

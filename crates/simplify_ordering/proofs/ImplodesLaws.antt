@@ -11,7 +11,7 @@ use Rattle.plan.specs.Kinds.{same-ir}
 use Rattle.plan.specs.Lists.{if_then_else_}
 use Rattle.plan.specs.Sheet.{Expr, Step, no-step, expr-at, step-at}
 use Rattle.plan.specs.Visit.{implode, imploded, with-implodes, implode-over, with-aggs}
-use Rattle.node_rules.specs.Held.{with-agg}
+use Rattle.storage.specs.Steps.{with-agg}
 
 -- appending only makes the arena longer
 longer-one : (q : ℕ) (es : List Expr) → length es ≤ length (implode q es .1)

@@ -28,9 +28,9 @@ use Rattle.expr.specs.declared.eos.Eos.{Eos}
 use Rattle.expr.specs.Projected.{no-entries, Started, ListAsks, ListGives}
 use Rattle.expr.specs.State.{State, state, eos-of, Falls, Formed}
 use Rattle.simplify_ordering.specs.declared.looks.VisitLooks.{VisitLooks}
-use Rattle.node_rules.specs.declared.steps.Entries.{Entries}
+use Rattle.storage.specs.declared.steps.Entries.{Entries}
 use Rattle.simplify_ordering.specs.Arena.{Arena-held}
-use Rattle.node_rules.specs.Held.{Is-list}
+use Rattle.storage.specs.Steps.{Is-list}
 use Rattle.simplify_ordering.specs.Looks.{first, second, Lists-ask, Lists-give, Listed, Looks-give}
 
 falls-below : (n : ℕ) (xs : List ℕ) → ((q : ℕ) → List·Memᴰ q xs → q < n) → Falls n xs

@@ -29,7 +29,7 @@ use Rattle.storage.specs.Edges.{stored-edge, stored-edges}
 use Rattle.node_rules.specs.Held.{Unlinked, Unlinkable, Edges-held}
 use Rattle.simplify_ordering.specs.Looks.{Listed}
 use Rattle.simplify_ordering.specs.Run.{run-of, Run-held, Ruled-by, stopped-at, Settle-asks}
-use Rattle.node_rules.proofs.StepLaws.{its-n1}
+use Rattle.storage.proofs.StepLaws.{its-n1}
 use Rattle.claims.proofs.Stays.{goes-sort}
 use Rattle.plan.proofs.Counts.{true-of}
 use Rattle.claims.proofs.VisitsKept.{looks-visits}

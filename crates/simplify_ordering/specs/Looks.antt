@@ -12,9 +12,9 @@ use Rattle.plan.specs.Visit.{expr-order-simplifier}
 use Rattle.plan.specs.Visit as Visit
 use Rattle.plan.specs.declared.tally.Tally.{Tally}
 use Rattle.simplify_ordering.specs.declared.looks.VisitLooks.{VisitLooks}
-use Rattle.node_rules.specs.declared.steps.Entries.{Entries}
+use Rattle.storage.specs.declared.steps.Entries.{Entries}
 use Rattle.simplify_ordering.specs.Arena.{Arena-held}
-use Rattle.node_rules.specs.Held.{Is-list}
+use Rattle.storage.specs.Steps.{Is-list}
 
 -- The two lists xs and ys, from an arena and a tally -----------------------------------------------------------------------------------
 

@@ -7,9 +7,9 @@ ghost use Rattle.plan.specs.Sheet.{expr-at, step-at};
 ghost use Rattle.storage.specs.Stored.{arena-of, stored-steps, Steps-held};
 ghost use Rattle.plan.specs.Visit.{implode, imploded, implode-over, with-aggs};
 ghost use Rattle.simplify_ordering.specs.Arena.{Arena-held};
-ghost use Rattle.node_rules.specs.Held.{with-agg};
-use node_rules::steps::aggs_of;
-use node_rules::store::store_agg;
+ghost use Rattle.storage.specs.Steps.{with-agg};
+use storage::steps::aggs_of;
+use storage::store::store_agg;
 
 // Is line q's record a scalar? is_scalar_ae
 fn is_scalar_ae(recs: &[u8; 2048], line: &[u8; 128], off: &[bool; 128], n: usize, q: u8) -> bool

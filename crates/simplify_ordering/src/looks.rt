@@ -12,15 +12,15 @@ use crate::implode::append_implodes;
 use expr::projected::expr_order_simplifier;
 use expr::projected::simplify_projected_exprs;
 use node_rules::rules::allow_deordering_top;
-use node_rules::steps::Entries;
-use node_rules::steps::aggs_of;
-use node_rules::steps::exprs_of;
 use plan::ir::IR;
 use plan::orders::ObservableOrders;
 use plan::rules::Around;
 use plan::rules::Observable;
 use plan::rules::Options;
 use plan::tally::Tally;
+use storage::steps::Entries;
+use storage::steps::aggs_of;
+use storage::steps::exprs_of;
 use tally::looked;
 
 // What was observed, the tally afterwards, and how many records the arena has.

@@ -21,13 +21,13 @@ use node_rules::around::in_edges_of;
 use node_rules::loosen::loosen_edges;
 use node_rules::rules::refusal_of;
 use node_rules::rules::rule_of;
-use node_rules::steps::options_of;
-use node_rules::store::store_options;
 use node_rules::unlink::unlink_node;
 use plan::rules::Around;
 use plan::rules::Observable;
 use plan::rules::Options;
 use plan::tally::Tally;
+use storage::steps::options_of;
+use storage::store::store_options;
 use tally::visited;
 
 // What comes of a visit: the step was settled, or it was a sort that is removed, or the sheet is refused by 10 or 11.

@@ -1,3 +1,5 @@
 pub mod Laws
 pub mod Changes
 pub mod Append
+pub mod StepLaws
+pub mod StoreLaws

@@ -1,2 +1,3 @@
 pub mod Stored
 pub mod Edges
+pub mod Steps

@@ -1,1 +1,3 @@
-// No code: how the code above stores a sheet stands in specs/, and its laws in proofs/.
+// How the code stores a sheet, in specs/ with laws in proofs/, and what it reads and changes there.
+pub mod steps; // steps.rt: what is read of a stored step
+pub mod store; // store.rt: what a visit changes of a stored step

@@ -10,9 +10,9 @@ use Rattle.storage.specs.Stored.{arena-of, stored-steps, Steps-held}
 use Rattle.plan.specs.Visit.{implode}
 use Rattle.storage.proofs.Laws.{length-steps, length-arena}
 use Rattle.simplify_ordering.specs.Arena.{Arena-held}
-use Rattle.node_rules.specs.Held.{with-agg}
+use Rattle.storage.specs.Steps.{with-agg}
 use Rattle.simplify_ordering.proofs.ImplodesLaws.{Imploding, imploding-none, imploding-more, all-done, same-length, entry-is, room-for-one}
-use Rattle.node_rules.proofs.StepLaws.{its-n3, list-length, list-at}
+use Rattle.storage.proofs.StepLaws.{its-n3, list-length, list-at}
 use Rattle.plan.proofs.Counts.{mem-at}
 use Rattle.simplify_ordering.proofs.implode.append_implodes.Statement.{statement}
 use Rattle.simplify_ordering.proofs.implode.append_implodes.Tie as tie

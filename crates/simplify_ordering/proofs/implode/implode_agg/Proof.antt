@@ -1,5 +1,5 @@
 use Rattle.simplify_ordering.proofs.ImplodeLaws.{stays, appended, has-room}
-use Rattle.node_rules.specs.Held.{with-agg}
+use Rattle.storage.specs.Steps.{with-agg}
 use Rattle.storage.specs.Stored.{arena-of, stored-steps}
 use Rattle.storage.proofs.Laws.{length-arena}
 use mathlib.Core.Path.{sym, _∙_, ap}

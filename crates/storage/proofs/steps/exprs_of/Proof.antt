@@ -1,9 +1,9 @@
 use denote.Ref.{now}
 use native.Mathlib.Omega.{arith}
-use Rattle.node_rules.proofs.StepLaws.{its-exprs}
+use Rattle.storage.proofs.StepLaws.{its-exprs}
 use borrow.Author.Needs.{needs}
-use Rattle.node_rules.proofs.steps.exprs_of.Statement.{statement}
-use Rattle.node_rules.proofs.steps.exprs_of.Tie as tie
+use Rattle.storage.proofs.steps.exprs_of.Statement.{statement}
+use Rattle.storage.proofs.steps.exprs_of.Tie as tie
 
 -- src/steps.rt:56:13
 mul-b : tie.Need-mul-b

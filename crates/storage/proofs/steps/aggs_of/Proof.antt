@@ -1,9 +1,9 @@
 use denote.Ref.{now}
 use native.Mathlib.Omega.{arith}
-use Rattle.node_rules.proofs.StepLaws.{its-aggs}
+use Rattle.storage.proofs.StepLaws.{its-aggs}
 use borrow.Author.Needs.{needs}
-use Rattle.node_rules.proofs.steps.aggs_of.Statement.{statement}
-use Rattle.node_rules.proofs.steps.aggs_of.Tie as tie
+use Rattle.storage.proofs.steps.aggs_of.Statement.{statement}
+use Rattle.storage.proofs.steps.aggs_of.Tie as tie
 
 -- src/steps.rt:66:13
 mul-b : tie.Need-mul-b

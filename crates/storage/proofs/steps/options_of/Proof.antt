@@ -1,8 +1,8 @@
 use denote.Ref.{now}
-use Rattle.node_rules.proofs.StepLaws.{its-kind, its-a, its-b, its-c, its-n2}
+use Rattle.storage.proofs.StepLaws.{its-kind, its-a, its-b, its-c, its-n2}
 use borrow.Author.Needs.{needs}
-use Rattle.node_rules.proofs.steps.options_of.Statement.{statement}
-use Rattle.node_rules.proofs.steps.options_of.Tie as tie
+use Rattle.storage.proofs.steps.options_of.Statement.{statement}
+use Rattle.storage.proofs.steps.options_of.Tie as tie
 
 -- src/steps.rt:41:13
 mul-b : tie.Need-mul-b

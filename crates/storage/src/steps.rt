@@ -1,13 +1,36 @@
-// What a visit reads of a stored step: its kind and options, and its two lists of expressions.
+// What is read of a stored step: its kind and options, and its two lists of expressions.
 ghost use mathlib.Core.Path.{_≡_};
 ghost use Prim.Native.Nat.{_+_, _≤_, _<_};
 ghost use lib.ListN.{length, take, drop};
+ghost use Rattle.plan.specs.declared.ir.IR.{IR};
+ghost use Rattle.plan.specs.Kinds.{same-ir};
 ghost use Rattle.plan.specs.Sheet.{step-at};
-ghost use Rattle.storage.specs.Stored.{stored-steps, Steps-held};
+ghost use Rattle.storage.specs.Stored.{stored-step, stored-steps, Steps-held};
 ghost use Rattle.plan.specs.Visit.{options-of};
-ghost use Rattle.node_rules.specs.Held.{Is-list};
+ghost use Rattle.storage.specs.Steps.{Is-list};
 use plan::ir::IR;
 use plan::rules::Options;
+
+pub fn kind_of(steps: &[u8; 1024], i: usize) -> IR
+    requires { ⌜ i < 32 ⌝ }
+    ensures { λ r. ⌜ r ≡ stored-step (now (steps .entry)) i .kind ⌝ }
+{
+    IR::of_number(steps[i * 32])
+}
+
+pub fn is_cache(steps: &[u8; 1024], i: usize) -> bool
+    requires { ⌜ i < 32 ⌝ }
+    ensures { λ r. ⌜ r ≡ same-ir (stored-step (now (steps .entry)) i .kind) IR.Cache ⌝ }
+{
+    kind_of(steps, i).number() == 18
+}
+
+pub fn is_sink(steps: &[u8; 1024], i: usize) -> bool
+    requires { ⌜ i < 32 ⌝ }
+    ensures { λ r. ⌜ r ≡ same-ir (stored-step (now (steps .entry)) i .kind) IR.Sink ⌝ }
+{
+    kind_of(steps, i).number() == 2
+}
 
 // A list of expressions: the first `count` of the nodes.
 pub struct Entries {

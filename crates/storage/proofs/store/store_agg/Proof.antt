@@ -1,10 +1,10 @@
-use Rattle.node_rules.proofs.StoreLaws.{agg-law, agg-held}
+use Rattle.storage.proofs.StoreLaws.{agg-law, agg-held}
 use mathlib.Core.Path.{refl}
 use denote.Ref.{now}
 use native.Mathlib.Omega.{arith}
 use borrow.Author.Needs.{needs}
-use Rattle.node_rules.proofs.store.store_agg.Statement.{statement}
-use Rattle.node_rules.proofs.store.store_agg.Tie as tie
+use Rattle.storage.proofs.store.store_agg.Statement.{statement}
+use Rattle.storage.proofs.store.store_agg.Tie as tie
 
 -- src/store.rt:45:13
 mul-b : tie.Need-mul-b

@@ -1,9 +1,9 @@
 use mathlib.Core.Path.{_∙_}
 use denote.Ref.{now}
 use borrow.Author.Needs.{needs}
-use Rattle.ir_graph.proofs.Inputs.{stored-kind}
-use Rattle.ir_graph.proofs.stored.kind_of.Statement.{statement}
-use Rattle.ir_graph.proofs.stored.kind_of.Tie as tie
+use Rattle.storage.proofs.StepLaws.{stored-kind}
+use Rattle.storage.proofs.steps.kind_of.Statement.{statement}
+use Rattle.storage.proofs.steps.kind_of.Tie as tie
 
 mul-of-number : tie.Need-mul-of-number
 mul-of-number c = search needs

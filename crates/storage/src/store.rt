@@ -1,9 +1,9 @@
-// What a visit changes of a stored step.
+// What a visit changes of a stored step: its options, an input, an entry of its n3 list.
 ghost use mathlib.Core.Path.{_≡_};
 ghost use Prim.Native.Nat.{_+_, _*_, _<_};
 ghost use lib.ListN.{getD, set};
 ghost use Rattle.plan.specs.Sheet.{step-at};
 ghost use Rattle.storage.specs.Stored.{stored-steps, Steps-held};
 ghost use Rattle.plan.specs.Visit.{with-options, with-input, with-aggs};
 use plan::rules::Options;
 

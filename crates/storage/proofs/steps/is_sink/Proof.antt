@@ -1,6 +1,6 @@
 use borrow.Author.Needs.{needs}
-use Rattle.ir_graph.proofs.stored.is_cache.Statement.{statement}
-use Rattle.ir_graph.proofs.stored.is_cache.Tie as tie
+use Rattle.storage.proofs.steps.is_sink.Statement.{statement}
+use Rattle.storage.proofs.steps.is_sink.Tie as tie
 
 kind-of-requires : tie.Need-kind-of-requires
 kind-of-requires c κs = search needs
@@ -11,5 +11,5 @@ number-requires c κs = search needs
 returns : tie.Need-returns
 returns c = rw (c .number .ensures, c .before .kind-of .ensures)
 
-pub is-cache-spec : {M : Type 1} → statement M
-is-cache-spec = tie.close (tie.spec kind-of-requires number-requires returns)
+pub is-sink-spec : {M : Type 1} → statement M
+is-sink-spec = tie.close (tie.spec kind-of-requires number-requires returns)

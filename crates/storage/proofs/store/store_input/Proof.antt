@@ -1,9 +1,9 @@
 use denote.Ref.{now}
 use native.Mathlib.Omega.{arith}
-use Rattle.node_rules.proofs.StoreLaws.{input-law, input-held}
+use Rattle.storage.proofs.StoreLaws.{input-law, input-held}
 use borrow.Author.Needs.{needs}
-use Rattle.node_rules.proofs.store.store_input.Statement.{statement}
-use Rattle.node_rules.proofs.store.store_input.Tie as tie
+use Rattle.storage.proofs.store.store_input.Statement.{statement}
+use Rattle.storage.proofs.store.store_input.Tie as tie
 
 mul-b : tie.Need-mul-b
 mul-b c = search needs

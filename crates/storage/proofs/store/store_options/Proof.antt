@@ -1,9 +1,9 @@
 use denote.Ref.{now}
 use Rattle.plan.proofs.KindNumbers.{ir-small}
-use Rattle.node_rules.proofs.StoreLaws.{options-law, options-held}
+use Rattle.storage.proofs.StoreLaws.{options-law, options-held}
 use borrow.Author.Needs.{needs}
-use Rattle.node_rules.proofs.store.store_options.Statement.{statement}
-use Rattle.node_rules.proofs.store.store_options.Tie as tie
+use Rattle.storage.proofs.store.store_options.Statement.{statement}
+use Rattle.storage.proofs.store.store_options.Tie as tie
 
 mul-b : tie.Need-mul-b
 mul-b c = search needs

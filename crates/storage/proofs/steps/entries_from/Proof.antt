@@ -1,10 +1,10 @@
 use mathlib.Core.Path.{refl}
 use denote.Ref.{now}
 use native.Mathlib.Omega.{arith}
-use Rattle.node_rules.proofs.StepLaws.{eight-taken}
+use Rattle.storage.proofs.StepLaws.{eight-taken}
 use borrow.Author.Needs.{needs}
-use Rattle.node_rules.proofs.steps.entries_from.Statement.{statement}
-use Rattle.node_rules.proofs.steps.entries_from.Tie as tie
+use Rattle.storage.proofs.steps.entries_from.Statement.{statement}
+use Rattle.storage.proofs.steps.entries_from.Tie as tie
 
 -- src/steps.rt:24:13
 element-copy-out-t6 : tie.Need-element-copy-out-t6

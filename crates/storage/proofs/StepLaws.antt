@@ -7,10 +7,10 @@ use lib.ListN.{length, getD, take, drop, length-drop}
 use lib.Seq.{drop-cons, drop-drop, take-append-le, length-take-le, getD-take, getD-drop}
 use Rattle.plan.specs.Kinds.{ir}
 use Rattle.plan.specs.Sheet.{Step, no-step, step-at, step-of}
 use Rattle.storage.specs.Stored.{stored-step, stored-steps, Steps-held}
 use Rattle.storage.proofs.Laws.{table-at}
-use Rattle.node_rules.specs.declared.steps.Entries.{Entries}
-use Rattle.node_rules.specs.Held.{Is-list}
+use Rattle.storage.specs.declared.steps.Entries.{Entries}
+use Rattle.storage.specs.Steps.{Is-list}
 
 -- Eight bytes ----------------------------------------------------------------------------------------------------------------------
 
@@ -33,6 +33,10 @@ module _ (l : List ℕ) (b : ℕ) (room : b + 8 ≤ length l) where
 
   pub eight-taken : (count : ℕ) → count ≤ 8 → take count eight ≡ take count (drop b l)
   eight-taken count h = rw begins (sym (take-append-le count eight (drop (b + 8) l) h))
+
+pub stored-kind : (bytes : List ℕ) (i : ℕ) → ir (getD bytes (i * 32) 0) ≡ stored-step bytes i .kind
+unfolding stored-step step-of
+stored-kind bytes i = ap ir (ap (λ (j : ℕ). getD bytes j 0) (omega arith) ∙ sym (getD-drop (i * 32) bytes 0 0))
 
 -- A step's numbers -----------------------------------------------------------------------------------------------------------------
 
