@@ -30,7 +30,9 @@ def blocks(text):
 
 def freeze(folder, cases, counts=""):
     """Writes the cases of a folder, and the folder's block of the expected output: how many agree, and then the counts."""
-    (CRATE / "data" / folder / "cases").write_bytes(b"".join(framed(*case) for case in cases))
+    data = b"".join(framed(*case) for case in cases)
+    assert len(data) < 1_500_000
+    (CRATE / "data" / folder / "cases").write_bytes(data)
     stdout = CRATE / "stdout"
     shown = blocks(stdout.read_text())
     shown[folder] = f"{folder}: {len(cases)} of {len(cases)} agree\n{counts}"
