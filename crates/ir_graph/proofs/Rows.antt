@@ -29,7 +29,8 @@ use Rattle.claims.proofs.Places.{opened}
 use Rattle.ir_graph.specs.Edges.{made, made-edges}
 use Rattle.ir_graph.proofs.Linking.{length-edges}
 use Rattle.ir_graph.proofs.There.{edge-there}
-use Rattle.ir_graph.proofs.Selected.{select-append, passes-in, passes-only}
+use Rattle.plan.proofs.ListLaws.{select-append}
+use Rattle.ir_graph.proofs.Selected.{passes-in, passes-only}
 use Rattle.ir_graph.proofs.SecondPass.{Growing, past-of, rest, new, counted-top, following-new, top-there, grown}
 
 -- Edges into a step --------------------------------------------------------------------------------------------------------------

@@ -9,21 +9,11 @@ use lib.Dec.{T}
 use lib.ListN.{length, getD, take, drop, length-take, length-drop, take-append-drop}
 use lib.Seq.{getD-take, getD-drop}
 use Rattle.plan.specs.Lists.{if_then_else_, select, all?, sum}
-use Rattle.plan.proofs.ListLaws.{sum-append}
+use Rattle.plan.proofs.ListLaws.{sum-append, select-append}
 use Rattle.plan.proofs.Booleans.{and-both, all-at}
 use Rattle.plan.proofs.Counts.{T-of, mem-at, count, counted-in}
 
 module _ {A : Type 0} (p : A → Bool) where
-  pub select-append : (l m : List A) → select p (l ++ m) ≡ select p l ++ select p m
-  unfolding select
-  select-append [] m = refl
-  select-append (x ∷ l) m = by (p x) (select-append l m)
-    where
-      by : (b : Bool) → select p (l ++ m) ≡ select p l ++ select p m
-          → (if b then x ∷ select p (l ++ m) else select p (l ++ m)) ≡ (if b then x ∷ select p l else select p l) ++ select p m
-      by true e = ap (λ r. x ∷ r) e
-      by false e = e
-
   -- what is selected passes, and is all that is counted
   all-pass : (l : List A) → T (all? p (select p l))
   unfolding select all?

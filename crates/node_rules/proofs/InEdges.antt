@@ -12,7 +12,8 @@ use lib.ListN.{getD, List·getD-eq-default}
 use Rattle.plan.specs.Lists.{if_then_else_, select, all?}
 use Rattle.plan.specs.Graph.{Edge}
 use Rattle.storage.specs.Stored.{table}
-use Rattle.storage.proofs.Laws.{length-table, table-from-at, table-more}
+use Rattle.storage.proofs.Laws.{length-table, table-from-at, table-more, table-split}
+use Rattle.plan.proofs.ListLaws.{select-append}
 use Rattle.plan.specs.Visit.{is-into, in-edge, ins-unordered, no-edge}
 use Rattle.node_rules.specs.declared.around.InEdges.{InEdges}
 use Rattle.storage.specs.Edges.{producer-of, stored-edge, stored-edges, In-a-row}
@@ -57,30 +58,11 @@ module _ (consumer in-edges : List ℕ) (edges n : ℕ) (rows : In-a-row consume
 -- What is selected by the run -----------------------------------------------------------------------------------------------------
 
 module _ {A : Type 0} (p : A → Bool) (f : ℕ → A) where
-  skipped : (k m n : ℕ) → ((j : ℕ) → k ≤ j → j < k + m → p (f j) ≡ false) → select p (table f k (m + n)) ≡ select p (table f (k + m) n)
+  all-taken : (k n : ℕ) → ((j : ℕ) → k ≤ j → j < k + n → p (f j) ≡ true) → select p (table f k n) ≡ table f k n
   unfolding select table
-  skipped k zero n h =
-      let here : k ≡ k + 0 = omega arith in
-      let rest : 0 + n ≡ n = omega arith in
-      ap₂ (λ (i j : ℕ). select p (table f i j)) here rest
-  skipped k (suc m) n h =
-      let more : suc m + n ≡ suc (m + n) = omega arith in
-      rw (more, h k (omega arith) (omega arith))
-      (skipped (suc k) m n (λ j a b. h j (omega arith) (omega arith)) ∙ ap (λ (i : ℕ). select p (table f i n)) (omega arith))
-
-  taken : (k m n : ℕ) → ((j : ℕ) → k ≤ j → j < k + m → p (f j) ≡ true)
-      → select p (table f k (m + n)) ≡ table f k m ++ select p (table f (k + m) n)
-  unfolding select table
-  taken k zero n h =
-      let here : k ≡ k + 0 = omega arith in
-      let rest : 0 + n ≡ n = omega arith in
-      ap₂ (λ (i j : ℕ). select p (table f i j)) here rest
-  taken k (suc m) n h =
-      let more : suc m + n ≡ suc (m + n) = omega arith in
-      rw (more, h k (omega arith) (omega arith))
-      (ap (λ (l : List A). f k ∷ l)
-      (taken (suc k) m n (λ j a b. h j (omega arith) (omega arith))
-      ∙ ap (λ (i : ℕ). table f (suc k) m ++ select p (table f i n)) (omega arith)))
+  all-taken k zero h = refl
+  all-taken k (suc n) h =
+      rw (h k (omega arith) (omega arith)) (ap (λ (l : List A). f k ∷ l) (all-taken (suc k) n (λ j a b. h j (omega arith) (omega arith))))
 
   none-taken : (k n : ℕ) → ((j : ℕ) → k ≤ j → j < k + n → p (f j) ≡ false) → select p (table f k n) ≡ []
   unfolding select table
@@ -93,13 +75,11 @@ module _ {A : Type 0} (p : A → Bool) (f : ℕ → A) where
   run-selected a b n h l within without =
       let parts : n ≡ a + ((b - a) + (n - b)) = omega arith in
       let start : 0 + a ≡ a = omega arith in
-      rw parts
-      (skipped 0 a ((b - a) + (n - b)) (λ j x y. without j (omega arith) (inl (omega arith)))
-      ∙ ap (λ (i : ℕ). select p (table f i ((b - a) + (n - b)))) start
-      ∙ taken a (b - a) (n - b) (λ j x y. within j (omega arith) x (omega arith))
-      ∙ ap (λ (l : List A). table f a (b - a) ++ l)
-      (none-taken (a + (b - a)) (n - b) (λ j x y. without j (omega arith) (inr (omega arith))))
-      ∙ append-nil (table f a (b - a)))
+      let front = none-taken 0 a (λ j x y. without j (omega arith) (inl (omega arith))) in
+      let run = all-taken a (b - a) (λ j x y. within j (omega arith) x (omega arith)) in
+      let rest = none-taken (a + (b - a)) (n - b) (λ j x y. without j (omega arith) (inr (omega arith))) in
+      rw (parts, table-split f 0 a ((b - a) + (n - b)), start, table-split f a (b - a) (n - b), select-append, select-append, front, run, rest)
+      (append-nil (table f a (b - a)))
 
 module _ (consumer slot producer : List ℕ) (unordered : List Bool) (edges n : ℕ) (d : InEdges) (run : In-run consumer edges n d) where
   abbrev edge : ℕ → Edge

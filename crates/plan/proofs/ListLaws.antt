@@ -9,7 +9,7 @@ use mathlib.Core.List.{List, [], _∷_, _++_, List·Memᴰ, List·Memᴰ·not-ni
 use lib.Dec.{T, eqb, eqb→eq}
 use lib.ListN.{length, take, drop, length-drop}
 use lib.Seq.{take-nil, take-all}
-use Rattle.plan.specs.Lists.{all?, sum, same}
+use Rattle.plan.specs.Lists.{if_then_else_, all?, select, sum, same}
 
 -- What a passed test says --------------------------------------------------------------------------------------------------------
 
@@ -44,6 +44,17 @@ pub sum-append : {A : Type 0} (w : A → ℕ) (l m : List A) → sum w (l ++ m) 
 unfolding sum
 sum-append w [] m = omega arith
 sum-append w (x ∷ l) m = omega (arith, sum-append w l m)
+
+module _ {A : Type 0} (p : A → Bool) where
+  pub select-append : (l m : List A) → select p (l ++ m) ≡ select p l ++ select p m
+  unfolding select
+  select-append [] m = refl
+  select-append (x ∷ l) m = by (p x) (select-append l m)
+    where
+      by : (b : Bool) → select p (l ++ m) ≡ select p l ++ select p m
+          → (if b then x ∷ select p (l ++ m) else select p (l ++ m)) ≡ (if b then x ∷ select p l else select p l) ++ select p m
+      by true e = ap (λ r. x ∷ r) e
+      by false e = e
 
 pub drop-take : (a m : ℕ) (l : List ℕ) → drop a (take (a + m) l) ≡ take m (drop a l)
 drop-take zero m l = let e : 0 + m ≡ m = omega arith in rw e

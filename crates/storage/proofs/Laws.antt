@@ -37,6 +37,17 @@ module _ {A : Type 0} (f : ℕ → A) where
   table-more k (suc n) =
       ap (λ (l : List A). f k ∷ l) (table-more (suc k) n ∙ ap (λ (i : ℕ). table f (suc k) n ++ (f i ∷ [])) (omega arith))
 
+  -- in two parts
+  pub table-split : (k m n : ℕ) → table f k (m + n) ≡ table f k m ++ table f (k + m) n
+  unfolding table
+  table-split k zero n =
+      let here : k ≡ k + 0 = omega arith in
+      let rest : 0 + n ≡ n = omega arith in
+      ap₂ (λ (i j : ℕ). table f i j) here rest
+  table-split k (suc m) n =
+      let more : suc m + n ≡ suc (m + n) = omega arith in
+      rw more (ap (λ (l : List A). f k ∷ l) (table-split (suc k) m n ∙ ap (λ (i : ℕ). table f (suc k) m ++ table f i n) (omega arith)))
+
 -- as many lines as are stored
 pub length-exprs : (bytes : List ℕ) (n : ℕ) → length (stored-exprs bytes n) ≡ n
 unfolding stored-exprs
