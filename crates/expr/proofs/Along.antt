@@ -19,10 +19,11 @@ use Rattle.plan.specs.Sheet.{Expr}
 use Rattle.plan.specs.Orders.{no-orders, add}
 use Rattle.plan.specs.Look.{NO-DEORDER, Eos, with-field, in-order, after, enter-struct, Look, look-along, look-along-children}
 use Rattle.expr.specs.declared.seen.Seen.{Seen}
-use Rattle.expr.specs.declared.record.ExprRecord.{ExprRecord}
+use Rattle.storage.specs.declared.exprs.ExprRecord.{ExprRecord}
 use Rattle.expr.specs.Seen.{Sees}
 use Rattle.expr.specs.Tables.{answers}
-use Rattle.expr.specs.Record.{record-of, Shaped, slot, child-at}
+use Rattle.storage.specs.Exprs.{record-of, Shaped}
+use Rattle.expr.specs.Record.{slot, child-at}
 use Rattle.expr.specs.Contract.{along-from}
 use Rattle.expr.proofs.Records.{children-length, children-at}
 

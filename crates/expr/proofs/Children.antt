@@ -18,11 +18,12 @@ use Rattle.plan.specs.Orders.{add}
 use Rattle.plan.specs.Look.{NO-DEORDER, in-order, look-along-children, look}
 use Rattle.plan.specs.Look as plan
 use Rattle.expr.specs.declared.seen.Seen.{Seen}
-use Rattle.expr.specs.declared.record.ExprRecord.{ExprRecord}
+use Rattle.storage.specs.declared.exprs.ExprRecord.{ExprRecord}
 use Rattle.expr.specs.Eos.{Own}
 use Rattle.expr.specs.Eos as own
 use Rattle.expr.specs.Seen.{none-seen, Adds}
-use Rattle.expr.specs.Record.{record-of, slot, child-at}
+use Rattle.storage.specs.Exprs.{record-of}
+use Rattle.expr.specs.Record.{slot, child-at}
 use Rattle.expr.specs.State.{State, eos-of, Formed}
 use Rattle.expr.specs.Contract.{walked, looked-of, LookAsks, LookGives, along-from, Begun, reach, Reached, AlongAsks, IsWalk, AlongGives}
 use Rattle.expr.proofs.Records.{children-length, children-at, above-each}

@@ -17,11 +17,12 @@ use Rattle.plan.specs.Sheet.{Expr}
 use Rattle.plan.specs.Orders.{∅, COLUMN, INDEPENDENT, _∪_, no-orders}
 use Rattle.plan.specs.Look.{Eos, one-look, before, in-order, check-return-cached, is-replaced, after, plain, enter-struct, look-ended, look}
 use Rattle.storage.specs.Stored.{stored-expr}
-use Rattle.expr.specs.Record.{held}
+use Rattle.storage.specs.Exprs.{held}
 use Rattle.expr.specs.State.{State, eos-of}
 use Rattle.expr.specs.Tables.{Leaf}
 use Rattle.expr.specs.Contract.{looked-of, LookAsks, LookGives, Answers}
-use Rattle.expr.proofs.Records.{and-left, and-right, or-false, stored}
+use Rattle.storage.proofs.ExprLaws.{stored}
+use Rattle.expr.proofs.Records.{and-left, and-right, or-false}
 use Rattle.expr.proofs.States.{counted, answering, kept-owning, eos-field, eos-counted, eos-answering, eos-at}
 use Rattle.expr.proofs.Laws.{finish, after-answers, finish-done, look-rest}
 use Rattle.expr.proofs.Along.{none-in-order, children-from, along-none}

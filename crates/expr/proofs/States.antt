@@ -22,12 +22,12 @@ use Rattle.plan.specs.Look as plan
 use Rattle.storage.proofs.Laws.{length-arena}
 use Rattle.expr.specs.declared.after.After.{After}
 use Rattle.expr.specs.declared.seen.Seen.{Seen}
-use Rattle.expr.specs.declared.record.ExprRecord.{ExprRecord}
+use Rattle.storage.specs.declared.exprs.ExprRecord.{ExprRecord}
 use Rattle.expr.specs.Eos.{Own}
 use Rattle.expr.specs.Eos as own
 use Rattle.expr.specs.Seen.{none-seen, Adds}
 use Rattle.expr.specs.Cache.{packed, cache-of}
-use Rattle.expr.specs.Record.{record-of, held}
+use Rattle.storage.specs.Exprs.{record-of, held}
 use Rattle.expr.specs.State.{State, eos-of, Formed, Kept}
 use Rattle.expr.specs.Tables.{after-of}
 use Rattle.expr.specs.Contract.{looked-of, ended-by, Ended, Begun}

@@ -15,7 +15,7 @@ use Rattle.plan.specs.Look.{with-entry, switched-off}
 use Rattle.storage.specs.Stored.{held-expr, arena-of}
 use Rattle.storage.proofs.Laws.{length-arena, table-at}
 use Rattle.expr.specs.Cache.{packed, entry-of, cache-of}
-use Rattle.expr.specs.Record.{held}
+use Rattle.storage.specs.Exprs.{held}
 use Rattle.expr.proofs.Records.{or-false}
 
 -- The arena ----------------------------------------------------------------------------------------------------------------------

@@ -23,13 +23,14 @@ use Rattle.plan.specs.Look.{one-look, before, check-return-cached, is-replaced,
 use Rattle.plan.specs.Look as plan
 use Rattle.storage.specs.Stored.{stored-expr, Expr-formed}
 use Rattle.expr.specs.declared.after.After.{After}
-use Rattle.expr.specs.declared.record.ExprRecord.{ExprRecord}
+use Rattle.storage.specs.declared.exprs.ExprRecord.{ExprRecord}
 use Rattle.expr.specs.Cache.{unpacked, cache-of}
-use Rattle.expr.specs.Record.{record-of, held, IsHeld}
+use Rattle.storage.specs.Exprs.{record-of, held, IsHeld}
 use Rattle.expr.specs.State.{State, eos-of, Falls, Based, Formed, Kept, Readable, sorts, preserves, is-replaced-line}
 use Rattle.expr.specs.Tables.{output-of, after-of, answers}
 use Rattle.expr.specs.Contract.{Walked, looked-of, LookAsks, LookGives, answer-by, AgainAsks, AgainGives, ended-by, Ended, Answers, reach, AlongAsks, IsWalk, AlongGives}
-use Rattle.expr.proofs.Records.{no, and-left, and-right, stored, above-least}
+use Rattle.storage.proofs.ExprLaws.{stored}
+use Rattle.expr.proofs.Records.{no, and-left, and-right, above-least}
 use Rattle.expr.proofs.States.{kept-trans, formed-kept, counted, answering, copied, kept-owning, kept-copied, eos-cache, eos-field, eos-looks, eos-counted, eos-answering, same-field, eos-at, eos-copied}
 use Rattle.expr.proofs.Laws.{finish, after-answers, look-hit, look-copied, look-rest, up-finish, up-look, up-count}
 use Rattle.expr.proofs.Along.{after-seen}

@@ -15,9 +15,9 @@ use Rattle.plan.specs.Look.{NO-DEORDER, Look, look, look-along, look-again, loo
 use Rattle.plan.specs.Look as plan
 use Rattle.expr.specs.declared.after.After.{After}
 use Rattle.expr.specs.declared.seen.Seen.{Seen}
-use Rattle.expr.specs.declared.record.ExprRecord.{ExprRecord}
+use Rattle.storage.specs.declared.exprs.ExprRecord.{ExprRecord}
 use Rattle.expr.specs.Seen.{Sees}
-use Rattle.expr.specs.Record.{record-of, Shaped}
+use Rattle.storage.specs.Exprs.{record-of, Shaped}
 use Rattle.expr.specs.State.{State, eos-of, above, Based, Formed, Kept}
 use Rattle.expr.specs.Tables.{after-of}
 

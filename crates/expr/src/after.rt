@@ -3,9 +3,8 @@ ghost use mathlib.Core.Path.{_≡_};
 ghost use Prim.Native.Nat.{_<_};
 ghost use Rattle.plan.specs.declared.orders.ObservableOrders.{ObservableOrders};
 ghost use Rattle.plan.specs.Look.{twice, once, plain, after, function-output};
-ghost use Rattle.expr.specs.Record.{record-of};
+ghost use Rattle.storage.specs.Exprs.{record-of};
 ghost use Rattle.expr.specs.Tables.{output-of, after-of, ternary-output, projected-row, filter-row, ternary-row, function-row, answers, Leaf};
-use crate::record::ExprRecord;
 use crate::record::first_child;
 use crate::seen::Seen;
 use crate::seen::pick;
@@ -13,6 +12,7 @@ use plan::aexpr::AExpr;
 use plan::function_flags::FunctionFlags;
 use plan::orders::ExprOrderAcc;
 use plan::orders::ObservableOrders as O;
+use storage::exprs::ExprRecord;
 
 // An answer from that of the second look. It takes a byte, so that After takes no more than eight.
 pub enum Output {

@@ -1,10 +1,10 @@
 // What stands before the looks along a record's children, by its kind.
 ghost use mathlib.Core.Path.{_≡_};
 ghost use Rattle.plan.specs.Look.{before, row};
-ghost use Rattle.expr.specs.Record.{record-of};
-use crate::record::ExprRecord;
+ghost use Rattle.storage.specs.Exprs.{record-of};
 use plan::aexpr::AExpr;
 use plan::looks::Before;
+use storage::exprs::ExprRecord;
 
 fn row(checks: bool, turned: bool, first: bool) -> Before
     ensures { λ r. ⌜ r ≡ row checks turned first ⌝ }

@@ -11,7 +11,7 @@ ghost use Rattle.plan.specs.Orders.{is-empty};
 ghost use Rattle.plan.specs.Look.{NO-DEORDER};
 ghost use Rattle.plan.specs.declared.aexpr.AExpr.{AExpr};
 ghost use Rattle.expr.specs.Tables.{after-of};
-ghost use Rattle.expr.specs.Record.{record-of, Shaped};
+ghost use Rattle.storage.specs.Exprs.{record-of, Shaped};
 ghost use Rattle.expr.specs.State.{state, preserves, is-replaced-line, Readable};
 ghost use Rattle.expr.specs.Eos.{own-of, with-field};
 ghost use Rattle.expr.specs.Contract.{walked, Ended, LookAsks, LookGives, AgainAsks, AgainGives, AlongAsks, AlongGives};
@@ -19,9 +19,7 @@ use crate::after::After;
 use crate::after::leaf;
 use crate::before::before_of;
 use crate::eos::Eos;
-use crate::record::ExprRecord;
 use crate::record::child_of;
-use crate::record::expr_of;
 use crate::record::first_child;
 use crate::revisit_cache::packed;
 use crate::revisit_cache::unpacked;
@@ -29,6 +27,8 @@ use crate::seen::Seen;
 use plan::aexpr::AExpr;
 use plan::looks::Before;
 use plan::orders::ObservableOrders;
+use storage::exprs::ExprRecord;
+use storage::exprs::expr_of;
 
 pub struct Walk {
     pub state: Eos,

@@ -16,7 +16,7 @@ use Rattle.storage.proofs.Laws.{table-at}
 use Rattle.storage.proofs.Append.{with-implode, arena-appended, others-kept, implode-stored, old-formed, new-formed}
 use Rattle.plan.specs.Visit.{implode, implode-over, with-aggs}
 use Rattle.expr.specs.State.{Falls, sorts}
-use Rattle.expr.proofs.Records.{stored}
+use Rattle.storage.proofs.ExprLaws.{stored}
 use Rattle.simplify_ordering.specs.Arena.{Arena-held}
 use Rattle.storage.specs.Steps.{with-agg}
 

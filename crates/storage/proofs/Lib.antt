@@ -3,3 +3,4 @@ pub mod Changes
 pub mod Append
 pub mod StepLaws
 pub mod StoreLaws
+pub mod ExprLaws

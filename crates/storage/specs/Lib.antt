@@ -1,3 +1,4 @@
 pub mod Stored
 pub mod Edges
 pub mod Steps
+pub mod Exprs

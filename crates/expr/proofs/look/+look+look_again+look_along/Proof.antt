@@ -37,7 +37,7 @@ use Rattle.expr.proofs.look.is_replaced.Reads as is-replaced-reads
 use Rattle.expr.proofs.look.look_ended.Reads as look-ended-reads
 use Rattle.expr.proofs.look.mode.Reads as mode-reads
 use Rattle.expr.proofs.record.child_of.Reads as child-of-reads
-use Rattle.expr.proofs.record.expr_of.Reads as expr-of-reads
+use Rattle.storage.proofs.exprs.expr_of.Reads as expr-of-reads
 use Rattle.expr.proofs.record.first_child.Reads as first-child-reads
 use Rattle.expr.proofs.revisit_cache.unpacked.Reads as unpacked-reads
 use Rattle.expr.proofs.seen.Seen.add.Reads as add-reads

@@ -1,5 +1,5 @@
 use mathlib.Core.Bool.{false}
-use Rattle.expr.specs.Record.{record-of}
+use Rattle.storage.specs.Exprs.{record-of}
 use mathlib.Core.Path.{_∙_}
 use Rattle.expr.proofs.Records.{is-sort, is-sort-by, is-neither}
 use borrow.Author.Needs.{needs}

@@ -1,7 +1,7 @@
-use Rattle.expr.proofs.Records.{is-held}
+use Rattle.storage.proofs.ExprLaws.{is-held}
 use borrow.Author.Needs.{needs}
-use Rattle.expr.proofs.record.expr_of.Statement.{statement}
-use Rattle.expr.proofs.record.expr_of.Tie as tie
+use Rattle.storage.proofs.exprs.expr_of.Statement.{statement}
+use Rattle.storage.proofs.exprs.expr_of.Tie as tie
 
 mul-b : tie.Need-mul-b
 mul-b c = search needs

@@ -1,0 +1,50 @@
+// What is read of a stored expression: the record that a line of the arena holds.
+ghost use mathlib.Core.Path.{_≡_};
+ghost use Prim.Native.Nat.{_+_, _*_, _<_, _≤_};
+ghost use lib.ListN.{length};
+ghost use Rattle.plan.specs.Lists.{if_then_else_};
+ghost use Rattle.storage.specs.Stored.{Expr-formed};
+ghost use Rattle.storage.specs.Exprs.{IsHeld};
+use plan::aexpr::AExpr;
+
+pub struct ExprRecord {
+    pub kind: AExpr,
+    pub scalar: bool,
+    pub length_preserving: bool,
+    pub option: u8,
+    // How many of the children there are.
+    pub count: u8,
+    pub children: [u8; 8],
+}
+
+// The record that was stored as line l, its option 0 where it was switched off.
+pub fn expr_of(recs: &[u8; 2048], l: u8, off: bool) -> ExprRecord
+    requires { ⌜ (l < 128) × (l * 16 + 16 ≤ length (now recs)) × Expr-formed (now recs) l ⌝ }
+    ensures { λ r. ⌜ IsHeld (now (recs .entry)) l off r ⌝ }
+{
+    let b = (l as usize) * 16;
+    let option = unless(off, recs[b + 3]);
+    ExprRecord {
+        kind: AExpr::of_number(recs[b]),
+        scalar: recs[b + 1] == 1,
+        length_preserving: recs[b + 2] == 1,
+        option: option,
+        count: recs[b + 12],
+        children: [
+            recs[b + 4],
+            recs[b + 5],
+            recs[b + 6],
+            recs[b + 7],
+            recs[b + 8],
+            recs[b + 9],
+            recs[b + 10],
+            recs[b + 11],
+        ],
+    }
+}
+
+fn unless(off: bool, option: u8) -> u8
+    ensures { λ r. ⌜ r ≡ (if off then 0 else option) ⌝ }
+{
+    if off { 0 } else { option }
+}
