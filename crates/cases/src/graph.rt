@@ -81,7 +81,7 @@ fn plan_agrees(sheet: &[u8], places: &[u8], edges: &[u8]) -> bool {
     }
 }
 
-pub fn agrees(sheet: &[u8], asked: &[u8], told: &[u8]) -> bool {
+pub(crate) fn agrees(sheet: &[u8], asked: &[u8], told: &[u8]) -> bool {
     if asked.len() != 0 {
         return false;
     }

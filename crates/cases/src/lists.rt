@@ -183,7 +183,7 @@ fn nodes_of(b: &[u8]) -> [u8; 8]
     nodes
 }
 
-pub fn agrees(sheet: &[u8], asked: &[u8], told: &[u8]) -> bool {
+pub(crate) fn agrees(sheet: &[u8], asked: &[u8], told: &[u8]) -> bool {
     if asked.len() == 0 {
         return false;
     }

@@ -35,7 +35,7 @@ fn call_agrees(sheet: &[u8], paper: &[u8], count: usize, line: &[u8], out: &mut 
     line_is(answer, line)
 }
 
-pub fn agrees(sheet: &[u8], asked: &[u8], told: &[u8]) -> bool {
+pub(crate) fn agrees(sheet: &[u8], asked: &[u8], told: &[u8]) -> bool {
     if asked.len() < 2 {
         return false;
     }

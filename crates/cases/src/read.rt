@@ -20,7 +20,7 @@ fn right(answer: PlanRead, told: &[u8]) -> bool {
     }
 }
 
-pub fn agrees(sheet: &[u8], asked: &[u8], told: &[u8]) -> bool {
+pub(crate) fn agrees(sheet: &[u8], asked: &[u8], told: &[u8]) -> bool {
     if asked.len() != 0 {
         return false;
     }

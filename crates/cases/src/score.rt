@@ -36,7 +36,7 @@ pub fn counted(s: Score, good: bool) -> Score
     }
 }
 
-pub fn report(name: &[u8], s: Score) {
+pub(crate) fn report(name: &[u8], s: Score) {
     io::write_all(STDOUT_FILENO, name);
     io::write_all(STDOUT_FILENO, b": ");
     io::print_decimal(STDOUT_FILENO, s.agree as u64);

@@ -94,7 +94,7 @@ fn call_agrees(
     right(answer, number, finished, out)
 }
 
-pub fn agrees(sheet: &[u8], asked: &[u8], told: &[u8], answers: &mut [u64; 13]) -> bool {
+pub(crate) fn agrees(sheet: &[u8], asked: &[u8], told: &[u8], answers: &mut [u64; 13]) -> bool {
     if asked.len() != 2 {
         return false;
     }
@@ -117,7 +117,7 @@ fn report_refused(number: u64, count: u64) {
     io::write_all(STDOUT_FILENO, b"\n");
 }
 
-pub fn report_answers(answers: &[u64; 13]) {
+pub(crate) fn report_answers(answers: &[u64; 13]) {
     io::write_all(STDOUT_FILENO, b"finished: ");
     io::print_decimal(STDOUT_FILENO, answers[0]);
     io::write_all(STDOUT_FILENO, b"\n");
