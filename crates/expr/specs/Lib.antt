@@ -4,7 +4,6 @@ pub mod Seen
 pub mod Record
 pub mod Tables
 pub mod State
-pub mod StateLaws
 pub mod Contract
 pub mod Projected
 pub mod Start
