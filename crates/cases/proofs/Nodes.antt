@@ -1,17 +1,12 @@
 -- The entries of a list, tested one after the other.
-use mathlib.Core.Path.{_≡_, refl, subst, sym}
+use mathlib.Core.Path.{_≡_, subst, sym}
 use Prim.Native.Nat.{ℕ, _+_, _≤_, _<_}
 use native.Mathlib.Omega.{arith}
 use native.Mathlib.Decide.{ℕ-discrete}
-use mathlib.Core.Bool.{Bool, true, false, not}
 use mathlib.Core.List.{List}
 use lib.ListN.{getD, take, length-take}
 use lib.Seq.{getD-take}
 use Rattle.expr.specs.State.{Falls}
-
-pub not-false : (b : Bool) → not b ≡ false → b ≡ true
-not-false true h = refl
-not-false false h = sym h
 
 pub record First-below (n : ℕ) (nodes : List ℕ) (i : ℕ) : Type 0 where
   pub each : (q : ℕ) → q < i → getD nodes q 0 < n

@@ -22,16 +22,16 @@ fn begins(a: &[u8; 288], b: &[u8]) -> bool
     true
 }
 
-// Are the pairs of b the first entries of the two arrays?
-fn pairs_begin(consumer: &[u8; 256], slot: &[u8; 256], b: &[u8], n: usize) -> bool
+// Are the pairs of b the consumers and slots of the first n edges?
+fn pairs_begin(ends: &[u8; 544], b: &[u8], n: usize) -> bool
     requires { ⌜ (n ≤ 256) × (n + n ≤ length (now b)) ⌝ }
 {
     let mut i: usize = 0;
     while i < n {
-        if consumer[i] != b[i + i] {
+        if ends[i] != b[i + i] {
             return false;
         }
-        if slot[i] != b[i + i + 1] {
+        if ends[256 + i] != b[i + i + 1] {
             return false;
         }
         i += 1;
@@ -46,19 +46,9 @@ fn graph_agrees(steps: &[u8; 1024], n: usize, places: &[u8], edges: &[u8]) -> bo
     requires { ⌜ ((i : ℕ) → i < n → Step-formed (now steps) i) ⌝ }
 {
     let mut list: [u8; 288] = [0; 288];
-    let mut consumer: [u8; 256] = [0; 256];
-    let mut slot: [u8; 256] = [0; 256];
-    let mut producer: [u8; 256] = [0; 256];
-    let mut ins: [u8; 32] = [0; 32];
-    let g = build_ir_traversal_graph(
-        steps,
-        n,
-        &mut list,
-        &mut consumer,
-        &mut slot,
-        &mut producer,
-        &mut ins,
-    );
+    let mut ends: [u8; 544] = [0; 544];
+    let mut made: [u8; 512] = [0; 512];
+    let g = build_ir_traversal_graph(steps, n, &mut list, &mut ends, &mut made);
     if g.places != places.len() {
         return false;
     }
@@ -68,7 +58,7 @@ fn graph_agrees(steps: &[u8; 1024], n: usize, places: &[u8], edges: &[u8]) -> bo
     if !begins(&list, places) {
         return false;
     }
-    pairs_begin(&consumer, &slot, edges, g.edges)
+    pairs_begin(&ends, edges, g.edges)
 }
 
 // Is the sheet accepted, and does its graph have these places and these edges?

@@ -1,6 +1,5 @@
 // A case of marking: the length of the output to lend and the paper are asked; what is told is how many bytes the output then
 // holds, and the line that is printed for the mark.
-ghost use Prim.Native.Nat.{_≤_};
 ghost use lib.ListN.{length};
 use crate::frame::two;
 use crate::sheets::FILLER;

@@ -1,6 +1,6 @@
 // A case of the whole call: the length of the output to lend is asked; what is told is the refusal's number, 0 for none, and
 // the finished sheet. Every byte of the output is compared.
-ghost use Prim.Native.Nat.{_≤_, _<_};
+ghost use Prim.Native.Nat.{_<_};
 ghost use mathlib.Core.Path.{_≡_};
 ghost use lib.ListN.{length};
 use crate::frame::two;

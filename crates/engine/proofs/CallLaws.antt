@@ -4,7 +4,7 @@ use mathlib.Core.Logic.{_⊎_, inl, inr}
 use Prim.Native.Nat.{ℕ, _≤_, _<_}
 use native.Mathlib.Omega.{arith}
 use mathlib.Core.List.{List, [], _∷_, _++_}
-use lib.ListN.{length, take, drop, length-append}
+use lib.ListN.{length, take, drop, length-append, length-take}
 use lib.Seq.{take-append-seam, take-append-le, drop-append-seam}
 use borrow.Author.Tests.{lt-ltb, le-ltb}
 use Rattle.plan.specs.declared.answer.Answer.{Answer}
@@ -12,6 +12,7 @@ use Rattle.plan.specs.Finished.{Called, called, run, finish, finished-answer, a
 use Rattle.plan.specs.Lists.{concat-map}
 use Rattle.plan.specs.Sheet.{Sheet, Outcome, refused, done, _then_, refuse_when_else_}
 use Rattle.storage.specs.Stored.{stored-steps}
+use Rattle.storage.proofs.Laws.{length-steps}
 use Rattle.plan.specs.Text.{line, edge-line, exprs-block, steps-block, edges-block, tally-line, printed, blocks, joined, end-of}
 use Rattle.plan.specs.Visit.{Run}
 use Rattle.plan.specs.Walks.{down, up, simplify-and-fetch-orderings}
@@ -83,15 +84,15 @@ module _ (es : List ℕ) (m : ℕ) (ps : List ℕ) (n : ℕ) (k : Plan-stored es
   pub steps-plan : claims-plan.Plan (stored-steps ps n)
   steps-plan = plans.plan-of (sheet es m ps n) (k .formed)
 
-  pub graph-made : (places consumer slot producer ins : List ℕ) (g : Graph) → Built (stored-steps ps n) places consumer slot producer ins g
-      → Graph-made (stored-steps ps n) places consumer slot producer ins g
-  graph-made places consumer slot producer ins g b =
+  pub graph-made : (places ends edges : List ℕ) (g : Graph) → Built (stored-steps ps n) places ends edges g
+      → Graph-made (stored-steps ps n) (take (g .places) places) ends edges (record { steps = n; edges = g .edges })
+  graph-made places ends edges g b =
       record {
         places-are = b .places-are;
         edges-are = b .edges-are;
-        few-places = b .few-places;
+        few-places = omega (arith, length-take (g .places) places, b .few-places);
         few-edges = b .few-edges;
-        rows = b .in-rows;
+        rows = λ m h. b .in-rows m (omega (arith, h, length-steps ps n));
       }
 
 -- What follows of the answer -----------------------------------------------------------------------------------------------------

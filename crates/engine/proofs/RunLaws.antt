@@ -2,30 +2,28 @@
 use mathlib.Core.Path.{_≡_, refl, sym, ap, ap₂, _∙_, subst}
 use Prim.Native.Nat.{ℕ}
 use native.Mathlib.Omega.{arith}
-use mathlib.Core.Bool.{Bool, false}
+use mathlib.Core.Bool.{Bool}
 use mathlib.Core.List.{List, [], _∷_, _++_}
-use lib.ListN.{length, drop, replicate, length-replicate}
+use lib.ListN.{length, drop}
 use Rattle.plan.specs.declared.answer.Answer.{Answer}
 use Rattle.plan.specs.declared.answer.Finished.{Finished}
 use Rattle.plan.specs.Lists.{concat-map}
 use Rattle.plan.specs.Finished.{called, finished-answer}
 use Rattle.plan.specs.Sheet.{Sheet, done}
 use Rattle.storage.specs.Stored.{arena-of, stored-exprs, stored-steps}
-use Rattle.storage.proofs.Laws.{same-table, length-steps}
 use Rattle.plan.specs.Text.{expr-line, step-line, edge-line, tally-line, exprs-block, steps-block, edges-block, printed, blocks, joined, end-of}
 use Rattle.plan.specs.Text as text
 use Rattle.plan.specs.Visit.{Run}
 use Rattle.plan.specs.Walks.{simplify-and-fetch-orderings}
 use Rattle.claims.specs.WellFormed.{WellFormed}
 use Rattle.reading.specs.Held.{sheet}
-use Rattle.ir_graph.specs.Edges.{made-edges}
-use Rattle.ir_graph.specs.declared.ir_graph.Graph.{Graph}
+use Rattle.storage.specs.declared.edges.GraphSize.{GraphSize}
 use Rattle.plan.specs.declared.tally.Tally.{Tally}
 use Rattle.expr.specs.Start.{Own-lines, None-off}
 use Rattle.expr.proofs.Asked.{based-of-sheet}
-use Rattle.expr.proofs.Starts.{all-same, arena-at-start}
+use Rattle.expr.proofs.Starts.{arena-at-start}
 use Rattle.simplify_ordering.specs.Arena.{Arena-held}
-use Rattle.storage.specs.Edges.{stored-edge, stored-edges}
+use Rattle.storage.specs.Edges.{stored-edges}
 use Rattle.simplify_ordering.specs.Run.{run-of}
 use Rattle.simplify_ordering.specs.Walks.{sheet-of, Fetch-asks, Orderings-are, Orderings-held}
 use Rattle.simplify_ordering.specs.declared.walks.Fetched.{Fetched}
@@ -34,26 +32,18 @@ use Rattle.writing.specs.Blocks.{Sheet-wrote}
 use Rattle.engine.specs.Call.{call, Plan-stored, Graph-made}
 use Rattle.engine.specs.Lines.{Run-wrote}
 
--- Edges as they are made ---------------------------------------------------------------------------------------------------------
-
--- whether the array of marks is there or not
-edges-as-made : (consumer slot producer : List ℕ) (n : ℕ) → stored-edges consumer slot producer (replicate 256 false) n ≡ made-edges consumer slot producer n
-unfolding stored-edges stored-edge
-edges-as-made consumer slot producer n =
-    same-table (stored-edge consumer slot producer (replicate 256 false)) (stored-edge consumer slot producer []) n (λ j h. rw (all-same 256 j false))
-
 -- What the walks ask -------------------------------------------------------------------------------------------------------------
 
-module _ (es : List ℕ) (m : ℕ) (ps : List ℕ) (n : ℕ) (k : Plan-stored es m ps n) (line : List ℕ) (off : List Bool) (own : Own-lines line) (on : None-off off) where
-  pub sheet-at-start : sheet-of es line off m ps n ≡ sheet es m ps n
+module _ (es : List ℕ) (m : ℕ) (ps : List ℕ) (size : GraphSize) (k : Plan-stored es m ps (size .steps)) (line : List ℕ) (off : List Bool) (own : Own-lines line) (on : None-off off) where
+  pub sheet-at-start : sheet-of es line off m ps (size .steps) ≡ sheet es m ps (size .steps)
   sheet-at-start = rw (arena-at-start es m (k .exprs-held .few) line off own on)
 
-  module _ (records : length es ≡ 2048) (consumer slot producer in-edges places : List ℕ) (g : Graph) (producers : length producer ≡ 256) (made : Graph-made (stored-steps ps n) places consumer slot producer in-edges g) where
+  module _ (records : length es ≡ 2048) where
     arena-held : Arena-held es line off m
     arena-held =
         record {
           based =
-              based-of-sheet es m (k .exprs-held .few) (omega (arith, k .exprs-held .few, records)) (k .exprs-held .formed) (sheet es m ps n) (k .formed)
+              based-of-sheet es m (k .exprs-held .few) (omega (arith, k .exprs-held .few, records)) (k .exprs-held .formed) (sheet es m ps (size .steps)) (k .formed)
               refl;
           records = records;
           lines = own .size;
@@ -61,22 +51,21 @@ module _ (es : List ℕ) (m : ℕ) (ps : List ℕ) (n : ℕ) (k : Plan-stored es
           below = λ p h. omega (arith, own .own p (omega (arith, k .exprs-held .few)));
         }
 
-    pub fetch-asked : Fetch-asks es line off m ps n consumer slot in-edges producer (replicate 256 false) (g .edges) places (g .places)
-    fetch-asked =
+    pub fetch-asked : (list ends edges : List ℕ) → length edges ≡ 512 → Graph-made (stored-steps ps (size .steps)) list ends edges size → Fetch-asks es line off m ps ends edges size list
+    fetch-asked list ends edges bytes made =
         record {
           held =
               record {
                 arena = arena-held;
                 steps-held = k .steps-held;
                 few = made .few-edges;
-                producers = producers;
-                marks = length-replicate {A = Bool} 256 false;
+                bytes = bytes;
               };
           formed = subst WellFormed (sym sheet-at-start) (k .formed);
           few = made .few-places;
           places-are = made .places-are;
-          edges-are = edges-as-made consumer slot producer (g .edges) ∙ made .edges-are;
-          rows = λ i h. made .rows i (omega (arith, h, length-steps ps n));
+          edges-are = made .edges-are;
+          rows = made .rows;
         }
 
 -- What is written ----------------------------------------------------------------------------------------------------------------
@@ -99,24 +88,24 @@ module _ (run : Run) (e p g t entry exit : List ℕ) (f : Finished) (w : Sheet-w
   unfolding finished-answer end-of blocks joined printed
   answer-is x y z = finished-is f (wrote .exprs) (wrote .steps) (wrote .edges) (wrote .all) x y z
 
-module _ (recs line : List ℕ) (off : List Bool) (m : ℕ) (steps : List ℕ) (n : ℕ) (consumer slot : List ℕ) (unordered : List Bool) (edges removed : ℕ) (tally : Tally) (xs entry exit : List ℕ) (f : Finished) where
-  abbrev run : List ℕ → List ℕ → List ℕ → Run
-  run producer back gone = run-of recs line off m steps n consumer slot producer unordered edges back gone tally
+module _ (recs line : List ℕ) (off : List Bool) (m : ℕ) (steps ends edges : List ℕ) (size : GraphSize) (removed : ℕ) (tally : Tally) (xs entry exit : List ℕ) (f : Finished) where
+  abbrev run : List ℕ → List ℕ → Run
+  run back gone = run-of recs line off m steps ends edges size back gone tally
 
   pub run-wrote : stored-exprs xs m ≡ arena-of recs line off m
-      → ((producer : List ℕ) → Sheet-wrote (concat-map expr-line (stored-exprs xs m)) (concat-map step-line (stored-steps steps n)) (concat-map edge-line (stored-edges consumer slot producer unordered edges)) (text.line 84 (removed ∷ tally .visits ∷ tally .looks ∷ [])) entry exit f)
+      → Sheet-wrote (concat-map expr-line (stored-exprs xs m)) (concat-map step-line (stored-steps steps (size .steps))) (concat-map edge-line (stored-edges ends edges (size .edges))) (text.line 84 (removed ∷ tally .visits ∷ tally .looks ∷ [])) entry exit f
       → (f .removed ≡ removed) × (f .visits ≡ tally .visits) × (f .looks ≡ tally .looks)
       → Run-wrote run removed entry exit f
   unfolding exprs-block steps-block edges-block tally-line
   run-wrote e w (x, y, z) =
       record {
         answer =
-            λ producer back gone same.
-            answer-is (run producer back gone) _ _ _ _ entry exit f (w producer) (ap (concat-map expr-line) e) refl refl (ap (λ (k : ℕ). text.line 84 (k ∷ tally .visits ∷ tally .looks ∷ [])) same)
+            λ back gone same.
+            answer-is (run back gone) _ _ _ _ entry exit f w (ap (concat-map expr-line) e) refl refl (ap (λ (k : ℕ). text.line 84 (k ∷ tally .visits ∷ tally .looks ∷ [])) same)
             (x ∙ same) y z;
         bytes =
-            λ producer back gone same.
-            bytes-are (run producer back gone) _ _ _ _ entry exit f (w producer) (ap (concat-map expr-line) e) refl refl (ap (λ (k : ℕ). text.line 84 (k ∷ tally .visits ∷ tally .looks ∷ [])) same);
+            λ back gone same.
+            bytes-are (run back gone) _ _ _ _ entry exit f w (ap (concat-map expr-line) e) refl refl (ap (λ (k : ℕ). text.line 84 (k ∷ tally .visits ∷ tally .looks ∷ [])) same);
       }
 
 -- What the walks' outcome makes of the call --------------------------------------------------------------------------------------
@@ -136,11 +125,11 @@ module _ (sent sh : Sheet) (same : sent ≡ sh) (entry : List ℕ) (after : ℕ 
   refused-call k e =
       sym (ap (called entry) (subst (Orderings-are (simplify-and-fetch-orderings sent) after) e are)) ∙ of-sheet
 
-  pub finished-call : (f : Fetched) → r ≡ Orderings.Fetched f → (run : List ℕ → List ℕ → List ℕ → Run) (producer exit : List ℕ) (w : Finished)
-      → ((back gone : List ℕ) → after (f .exprs) back gone (f .tally) ≡ run producer back gone) → Run-wrote run (f .removed) entry exit w
+  pub finished-call : (f : Fetched) → r ≡ Orderings.Fetched f → (run : List ℕ → List ℕ → Run) (exit : List ℕ) (w : Finished)
+      → ((back gone : List ℕ) → after (f .exprs) back gone (f .tally) ≡ run back gone) → Run-wrote run (f .removed) entry exit w
       → call (Answer.Finished w) exit ≡ called entry (simplify-and-fetch-orderings sh)
   unfolding called
-  finished-call f e run producer exit w is k =
+  finished-call f e run exit w is k =
       let (back, gone, ends, count) = subst (Orderings-are (simplify-and-fetch-orderings sent) after) e are in
-      ap₂ (λ (x : Finished) (y : List ℕ). call (Answer.Finished x) y) (k .answer producer back gone count) (k .bytes producer back gone count)
+      ap₂ (λ (x : Finished) (y : List ℕ). call (Answer.Finished x) y) (k .answer back gone count) (k .bytes back gone count)
       ∙ sym (ap (called entry) (ends ∙ ap done (is back gone))) ∙ of-sheet

@@ -33,8 +33,7 @@ pub record Line-stored (entry line : List ℕ) (off : List Bool) (p : ℕ) (exit
   pub behind : (j : ℕ) → p * 16 + 16 ≤ j → getD exit j 0 ≡ getD entry j 0
 
 -- The run was written over the front of a buffer, and f says where its blocks end and what its figures are. `run` gives it from the
--- producers, the places gone back along and the sorts removed: of all these only the number of the sorts is written
-pub record Run-wrote (run : List ℕ → List ℕ → List ℕ → Run) (removed : ℕ) (entry exit : List ℕ) (f : Finished) : Type 0 where
-  pub answer : (producer back gone : List ℕ) → removed ≡ length gone → f ≡ finished-answer (run producer back gone)
-  pub bytes : (producer back gone : List ℕ) → removed ≡ length gone
-      → exit ≡ printed (run producer back gone) ++ drop (length (printed (run producer back gone))) entry
+-- places gone back along and the sorts removed: of these only the number of the sorts is written
+pub record Run-wrote (run : List ℕ → List ℕ → Run) (removed : ℕ) (entry exit : List ℕ) (f : Finished) : Type 0 where
+  pub answer : (back gone : List ℕ) → removed ≡ length gone → f ≡ finished-answer (run back gone)
+  pub bytes : (back gone : List ℕ) → removed ≡ length gone → exit ≡ printed (run back gone) ++ drop (length (printed (run back gone))) entry

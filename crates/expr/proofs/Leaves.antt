@@ -2,7 +2,7 @@
 use mathlib.Core.Path.{_≡_, refl, sym, ap, _∙_, subst}
 use Prim.Native.Nat.{ℕ, zero, suc, _+_, _*_, _<_}
 use native.Mathlib.Omega.{arith}
-use mathlib.Core.Bool.{Bool, true, false, _&&_}
+use mathlib.Core.Bool.{Bool, true, false, _&&_, and-false, or-false}
 use mathlib.Core.List.{List, []}
 use mathlib.Core.Option.{none}
 use lib.Dec.{eqb, ltb}
@@ -21,8 +21,8 @@ use Rattle.storage.specs.Exprs.{held}
 use Rattle.expr.specs.State.{State, eos-of}
 use Rattle.expr.specs.Tables.{Leaf}
 use Rattle.expr.specs.Contract.{looked-of, LookAsks, LookGives, Answers}
+use Rattle.plan.proofs.Booleans.{and-left, and-right}
 use Rattle.storage.proofs.ExprLaws.{stored}
-use Rattle.expr.proofs.Records.{and-left, and-right, or-false}
 use Rattle.expr.proofs.States.{counted, answering, kept-owning, eos-field, eos-counted, eos-answering, eos-at}
 use Rattle.expr.proofs.Laws.{finish, after-answers, finish-done, look-rest}
 use Rattle.expr.proofs.Along.{none-in-order, children-from, along-none}
@@ -125,10 +125,6 @@ module _ (recs : List ℕ) (n : ℕ) (s : State) (p : ℕ) (allow : Bool) (r : L
       K : Leaf-kind leaf-expr allow (leaf-expr .kind)
       K = subst (Leaf-kind leaf-expr allow) (sym leaf-kind-is) (leaf-kind leaf-expr allow k leaf-number)
 
-      and-no : (a : Bool) → (a && false) ≡ false
-      and-no true = refl
-      and-no false = refl
-
       module _ (tally : Tally) (f : ℕ) where
         abbrev D₀ : Answers
         D₀ = ([], no-orders, enter-struct leaf-expr [] (one-look (S tally)))
@@ -139,7 +135,7 @@ module _ (recs : List ℕ) (n : ℕ) (s : State) (p : ℕ) (allow : Bool) (r : L
 
         leaf-stays : is-replaced (S tally .expr-arena) leaf-expr allow ≡ false
         unfolding is-replaced
-        leaf-stays = rw (K .sort, K .sort-by) (and-no allow)
+        leaf-stays = rw (K .sort, K .sort-by) (and-false allow)
 
         leaf-queue : in-order (before leaf-expr allow (leaf-expr .kind)) (leaf-expr .children) ≡ []
         leaf-queue = none-in-order (before leaf-expr allow (leaf-expr .kind)) (leaf-expr .children) leaf-children

@@ -27,7 +27,7 @@ use Rattle.expr.specs.Cache.{cache-of}
 use Rattle.expr.specs.State.{State, state, eos-of, Formed, Kept}
 use Rattle.expr.specs.Contract.{LookAsks, LookGives, Answers}
 use Rattle.expr.specs.Projected.{no-entries, Started, ListAsks, ListGives, List-reached}
-use Rattle.expr.proofs.Records.{and-left}
+use Rattle.plan.proofs.Booleans.{and-left}
 use Rattle.expr.proofs.Starts.{all-same}
 use Rattle.expr.proofs.States.{kept-trans, formed-kept, owning, answering, kept-owning, length-eos, eos-answering, eos-observing, begun-none, begun-next}
 use Rattle.expr.proofs.Laws.{up-along, up-look}

@@ -1,8 +1,8 @@
 -- Laws of a record's children, and of the tests of a look.
-use mathlib.Core.Path.{_≡_, refl, sym, _∙_}
+use mathlib.Core.Path.{_≡_, refl, _∙_}
 use Prim.Native.Nat.{ℕ, zero, suc, _+_, _≤_, _<_}
 use native.Mathlib.Omega.{arith}
-use mathlib.Core.Bool.{Bool, true, false, _&&_, _||_}
+use mathlib.Core.Bool.{Bool, true, false, _&&_, _||_, true≢false, false≢true}
 use mathlib.Core.List.{List, [], _∷_}
 use lib.ListN.{length, getD, drop, drop-of-length-le}
 use lib.Seq.{drop-cons, length-take-le, getD-take}
@@ -60,38 +60,21 @@ module _ (e : ExprRecord) (shaped : Shaped e) where
       unfolding all?
       all-yes k = rw (rest-is, k)
 
--- Of Bools --------------------------------------------------------------------------------------------------------------------
-
-pub no : false ≡ true → ⊥
-no h = let z : _≡_ {A = ℕ} 0 1 = cc in omega arith
-
-pub and-left : (a b : Bool) → (a && b) ≡ true → a ≡ true
-and-left true b h = refl
-and-left false b h = h
-
-pub and-right : (a b : Bool) → (a && b) ≡ true → b ≡ true
-and-right true b h = h
-and-right false b h = absurd (no h)
-
-pub or-false : (a : Bool) → (a || false) ≡ a
-or-false true = refl
-or-false false = refl
-
 -- The three ways of the test for a replacement
 pick-sort : (allow s b a : Bool) → (allow && s) ≡ true → true ≡ (allow && (s || (b && a)))
 pick-sort true true b a h = refl
-pick-sort true false b a h = absurd (no h)
-pick-sort false s b a h = absurd (no h)
+pick-sort true false b a h = absurd (false≢true h)
+pick-sort false s b a h = absurd (false≢true h)
 
 pick-sort-by : (allow s b a : Bool) → (allow && s) ≡ false → (allow && b) ≡ true → a ≡ (allow && (s || (b && a)))
-pick-sort-by true true b a h k = absurd (no (sym h))
+pick-sort-by true true b a h k = absurd (true≢false h)
 pick-sort-by true false true a h k = refl
-pick-sort-by true false false a h k = absurd (no k)
-pick-sort-by false s b a h k = absurd (no k)
+pick-sort-by true false false a h k = absurd (false≢true k)
+pick-sort-by false s b a h k = absurd (false≢true k)
 
 pick-neither : (allow s b a : Bool) → (allow && s) ≡ false → (allow && b) ≡ false → false ≡ (allow && (s || (b && a)))
-pick-neither true true b a h k = absurd (no (sym h))
-pick-neither true false true a h k = absurd (no (sym k))
+pick-neither true true b a h k = absurd (true≢false h)
+pick-neither true false true a h k = absurd (true≢false k)
 pick-neither true false false a h k = refl
 pick-neither false s b a h k = refl
 

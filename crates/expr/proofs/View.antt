@@ -1,7 +1,7 @@
 -- The code's lines and the definition's arena: reading a line, copying one over another, switching one off; an entry of the cache.
 use mathlib.Core.Path.{_≡_, refl, sym, _∙_, fun-ext}
 use Prim.Native.Nat.{ℕ, _<_}
-use mathlib.Core.Bool.{Bool, true, false, _||_}
+use mathlib.Core.Bool.{Bool, true, false, _||_, or-false}
 use mathlib.Core.List.{List}
 use mathlib.Core.Option.{some}
 use lib.Dec.{eqb}
@@ -16,7 +16,6 @@ use Rattle.storage.specs.Stored.{held-expr, arena-of}
 use Rattle.storage.proofs.Laws.{length-arena, table-at}
 use Rattle.expr.specs.Cache.{packed, entry-of, cache-of}
 use Rattle.storage.specs.Exprs.{held}
-use Rattle.expr.proofs.Records.{or-false}
 
 -- The arena ----------------------------------------------------------------------------------------------------------------------
 

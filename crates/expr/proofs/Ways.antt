@@ -3,7 +3,7 @@ use mathlib.Core.Path.{_≡_, refl, sym, ap, _∙_}
 use Prim.Native.Nat.{ℕ, zero, suc, _+_, _*_, _<_, _≤_, _^_}
 use native.Mathlib.Nat.{le-of-lt, lt-of-le-of-lt, lt-of-lt-of-le}
 use native.Mathlib.Omega.{arith}
-use mathlib.Core.Bool.{Bool, true, false, _&&_, _||_, not}
+use mathlib.Core.Bool.{Bool, true, false, _&&_, _||_, not, true≢false, false≢true}
 use mathlib.Core.List.{List, [], _∷_}
 use mathlib.Core.Option.{Option, none, some}
 use lib.Dec.{eqb}
@@ -29,8 +29,9 @@ use Rattle.storage.specs.Exprs.{record-of, held, IsHeld}
 use Rattle.expr.specs.State.{State, eos-of, Falls, Based, Formed, Kept, Readable, sorts, preserves, is-replaced-line}
 use Rattle.expr.specs.Tables.{output-of, after-of, answers}
 use Rattle.expr.specs.Contract.{Walked, looked-of, LookAsks, LookGives, answer-by, AgainAsks, AgainGives, ended-by, Ended, Answers, reach, AlongAsks, IsWalk, AlongGives}
+use Rattle.plan.proofs.Booleans.{and-left, and-right}
 use Rattle.storage.proofs.ExprLaws.{stored}
-use Rattle.expr.proofs.Records.{no, and-left, and-right, above-least}
+use Rattle.expr.proofs.Records.{above-least}
 use Rattle.expr.proofs.States.{kept-trans, formed-kept, counted, answering, copied, kept-owning, kept-copied, eos-cache, eos-field, eos-looks, eos-counted, eos-answering, same-field, eos-at, eos-copied}
 use Rattle.expr.proofs.Laws.{finish, after-answers, look-hit, look-copied, look-rest, up-finish, up-look, up-count}
 use Rattle.expr.proofs.Along.{after-seen}
@@ -45,31 +46,31 @@ all-same f g (x ∷ xs) h = rw (h 0 (omega arith), all-same f g xs (λ k i. h (s
 -- a second look needs a single ordered child
 again-single : (e : Expr) (allow : Bool) (field : ObservableOrders) (os : List ObservableOrders) (x : ExprOrderAcc) (k : AExpr) → after e allow field os x k .again ≡ true → single x ≡ true
 unfolding after
-again-single e allow field os x AExpr.Column h = absurd (no h)
-again-single e allow field os x AExpr.Literal h = absurd (no h)
-again-single e allow field os x AExpr.Element h = absurd (no h)
-again-single e allow field os x AExpr.StructField h = absurd (no h)
-again-single e allow field os x AExpr.Len h = absurd (no h)
+again-single e allow field os x AExpr.Column h = absurd (false≢true h)
+again-single e allow field os x AExpr.Literal h = absurd (false≢true h)
+again-single e allow field os x AExpr.Element h = absurd (false≢true h)
+again-single e allow field os x AExpr.StructField h = absurd (false≢true h)
+again-single e allow field os x AExpr.Len h = absurd (false≢true h)
 again-single e allow field os x AExpr.BinaryExpr h = and-right (not (x .«saw_mixed_inputs»)) (single x) (and-left (not (x .«saw_mixed_inputs») && single x) _ h)
 again-single e allow field os x AExpr.Ternary h = and-right (not (x .«saw_mixed_inputs»)) (single x) (and-left (not (x .«saw_mixed_inputs») && single x) _ h)
-again-single e allow field os x AExpr.Cast h = absurd (no h)
-again-single e allow field os x AExpr.Explode h = absurd (no h)
-again-single e allow field os x AExpr.Sort h = absurd (no h)
-again-single e allow field os x AExpr.SortBy h = absurd (no h)
+again-single e allow field os x AExpr.Cast h = absurd (false≢true h)
+again-single e allow field os x AExpr.Explode h = absurd (false≢true h)
+again-single e allow field os x AExpr.Sort h = absurd (false≢true h)
+again-single e allow field os x AExpr.SortBy h = absurd (false≢true h)
 again-single e allow field os x AExpr.Filter h = and-right (not (x .«saw_mixed_inputs»)) (single x) (and-left (not (x .«saw_mixed_inputs») && single x) _ h)
-again-single e allow field os x AExpr.Gather h = absurd (no h)
-again-single e allow field os x AExpr.Slice h = absurd (no h)
-again-single e allow field os x AExpr.Eval h = absurd (no h)
+again-single e allow field os x AExpr.Gather h = absurd (false≢true h)
+again-single e allow field os x AExpr.Slice h = absurd (false≢true h)
+again-single e allow field os x AExpr.Eval h = absurd (false≢true h)
 again-single e allow field os x AExpr.StructEval h = and-right (not (x .«saw_mixed_inputs»)) (single x) (and-left (not (x .«saw_mixed_inputs») && single x) _ h)
-again-single e allow field os x AExpr.Over h = absurd (no h)
-again-single e allow field os x AExpr.Rolling h = absurd (no h)
-again-single e allow field os x AExpr.MinBy h = absurd (no h)
+again-single e allow field os x AExpr.Over h = absurd (false≢true h)
+again-single e allow field os x AExpr.Rolling h = absurd (false≢true h)
+again-single e allow field os x AExpr.MinBy h = absurd (false≢true h)
 again-single e allow field os x AExpr.Function h = and-left (single x) _ (and-left (single x && _) _ h)
-again-single e allow field os x AExpr.AnonymousAgg h = absurd (no h)
-again-single e allow field os x AExpr.First h = absurd (no h)
-again-single e allow field os x AExpr.Min h = absurd (no h)
-again-single e allow field os x AExpr.Implode h = absurd (no h)
-again-single e allow field os x AExpr.AggGroups h = absurd (no h)
+again-single e allow field os x AExpr.AnonymousAgg h = absurd (false≢true h)
+again-single e allow field os x AExpr.First h = absurd (false≢true h)
+again-single e allow field os x AExpr.Min h = absurd (false≢true h)
+again-single e allow field os x AExpr.Implode h = absurd (false≢true h)
+again-single e allow field os x AExpr.AggGroups h = absurd (false≢true h)
 
 -- A base record ------------------------------------------------------------------------------------------------------------------
 
@@ -171,13 +172,13 @@ module _ (recs : List ℕ) (n : ℕ) (s : State) (p : ℕ) (allow : Bool) (r : L
       asked-is tally = rw (← b-is, eos-cache tally recs n s)
 
       found : (c z : Bool) → (c && not z) ≡ true → (if c then (if z then none else some (unpacked entry)) else none) ≡ some (unpacked entry)
-      found true true h = absurd (no h)
+      found true true h = absurd (false≢true h)
       found true false h = refl
-      found false z h = absurd (no h)
+      found false z h = absurd (false≢true h)
 
       lacking : (c z : Bool) → (c && not z) ≡ false → (if c then (if z then none else some (unpacked entry)) else none) ≡ none
       lacking true true h = refl
-      lacking true false h = absurd (no (sym h))
+      lacking true false h = absurd (true≢false h)
       lacking false z h = refl
 
       -- check_return_cached!

@@ -1,18 +1,18 @@
--- An entry of the revisit cache in one byte.
-use Prim.Native.Nat.{ℕ}
-use mathlib.Core.Bool.{_||_}
+-- An entry of the revisit cache in one byte: 0 for none, else 4 and the order set's number.
+use Prim.Native.Nat.{ℕ, _+_, _%_}
 use mathlib.Core.List.{List}
 use mathlib.Core.Option.{Option, none, some}
-use lib.Dec.{eqb, ltb}
+use lib.Dec.{eqb}
 use lib.ListN.{getD}
 use Rattle.plan.specs.declared.orders.ObservableOrders.{ObservableOrders}
 use Rattle.plan.specs.Lists.{if_then_else_}
+use Rattle.expr.specs.Eos.{code, orders}
 
 abbrev pub packed : ObservableOrders → ℕ
-packed o = if o .column then (if o .independent then 4 else 2) else (if o .independent then 3 else 1)
+packed o = code o + 4
 
 abbrev pub unpacked : ℕ → ObservableOrders
-unpacked entry = record { column = eqb entry 2 || eqb entry 4; independent = ltb 2 entry }
+unpacked entry = orders (entry % 4)
 
 -- the entry of a node, if it has one
 abbrev pub entry-of : ℕ → Option ObservableOrders

@@ -12,7 +12,7 @@ pub struct Eos {
 }
 
 // An order set as a number: 1 for COLUMN and 2 for INDEPENDENT.
-fn code(o: ObservableOrders) -> u64
+pub(crate) fn code(o: ObservableOrders) -> u64
     ensures { λ r. ⌜ (r ≡ code o) × (r < 4) ⌝ }
 {
     if o.column {
@@ -22,7 +22,7 @@ fn code(o: ObservableOrders) -> u64
     }
 }
 
-fn orders(c: u64) -> ObservableOrders
+pub(crate) fn orders(c: u64) -> ObservableOrders
     ensures { λ r. ⌜ r ≡ orders c ⌝ }
 {
     ObservableOrders {

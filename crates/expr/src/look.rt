@@ -25,6 +25,7 @@ use crate::revisit_cache::packed;
 use crate::revisit_cache::unpacked;
 use crate::seen::Seen;
 use plan::aexpr::AExpr;
+use plan::choice::pick_byte;
 use plan::looks::Before;
 use plan::orders::ObservableOrders;
 use storage::exprs::ExprRecord;
@@ -79,12 +80,6 @@ fn loses_order(e: ExprRecord, first: ObservableOrders) -> bool
 {
     let kind = e.kind;
     same(kind, AExpr::Implode) & (e.option == 1) & first.is_empty()
-}
-
-fn pick_byte(b: bool, x: u8, y: u8) -> u8
-    ensures { λ r. ⌜ r ≡ (if b then x else y) ⌝ }
-{
-    if b { x } else { y }
 }
 
 // The state after the i-th child's answer: the fields of a StructEval have the order of its first child.

@@ -1,23 +1,18 @@
-// An entry of the revisit cache in one byte: 0 for none, else 1, and 1 more for COLUMN and 2 more for INDEPENDENT.
+// An entry of the revisit cache in one byte: 0 for none, else 4 and the order set's number.
 ghost use mathlib.Core.Path.{_≡_};
 ghost use Rattle.expr.specs.Cache.{packed, unpacked};
+use crate::eos::code;
+use crate::eos::orders;
 use plan::orders::ObservableOrders;
 
 pub fn packed(o: ObservableOrders) -> u8
     ensures { λ r. ⌜ r ≡ packed o ⌝ }
 {
-    if o.column {
-        if o.independent { 4 } else { 2 }
-    } else {
-        if o.independent { 3 } else { 1 }
-    }
+    (code(o) + 4) as u8
 }
 
 pub fn unpacked(entry: u8) -> ObservableOrders
     ensures { λ r. ⌜ r ≡ unpacked entry ⌝ }
 {
-    ObservableOrders {
-        column: (entry == 2) | (entry == 4),
-        independent: 2 < entry,
-    }
+    orders((entry % 4) as u64)
 }

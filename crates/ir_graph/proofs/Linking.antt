@@ -1,34 +1,70 @@
 -- Making the edges of one step.
 use mathlib.Core.Path.{_≡_, refl, ap, _∙_}
+use mathlib.Core.Logic.{_≢_}
 use mathlib.Core.List.{List, [], _∷_, _++_, map, append-assoc, append-nil}
 use Prim.Native.Nat.{ℕ, suc, _+_, _-_, _≤_, _<_}
 use native.Mathlib.Omega.{arith}
 use native.Mathlib.Numerals.{add-one}
 use borrow.Author.Tests.{ne-eqb}
-use lib.ListN.{length, getD, take, drop, set, length-take, length-drop}
-use lib.Seq.{take-suc, take-all, getD-take, getD-drop, getD-set-same, getD-set-other}
+use lib.ListN.{length, getD, take, drop, set, length-take, length-drop, length-set}
+use lib.Seq.{take-suc, take-all, getD-take, getD-drop, getD-set-same, getD-set-other, drop-set-lt}
 use Rattle.plan.specs.Lists.{numbered}
 use Rattle.plan.specs.Graph.{Edge, edges-into}
 use Rattle.storage.proofs.Laws.{length-table, same-table}
 use Rattle.storage.specs.Edges.{stored-edge, stored-edges}
-use Rattle.ir_graph.specs.Edges.{made, made-edges, Linked}
+use Rattle.ir_graph.specs.Edges.{made, Linked}
 use Rattle.claims.proofs.ByLine as by-line
 use Rattle.ir_graph.proofs.Pushing.{one-entry-more}
 
-pub length-edges : (c s p : List ℕ) (e : ℕ) → length (made-edges c s p e) ≡ e
+pub length-edges : (ends edges : List ℕ) (n : ℕ) → length (stored-edges ends edges n) ≡ n
 unfolding stored-edges
-length-edges c s p e = length-table (stored-edge c s p []) 0 e
+length-edges ends edges n = length-table (stored-edge ends edges) 0 n
+
+-- a byte at e and one at 256 + e
+module _ (l : List ℕ) (e a b : ℕ) where
+  abbrev two-set : List ℕ
+  two-set = set (set l e a) (256 + e) b
+
+  one-there : e < length l → getD two-set e 0 ≡ a
+  one-there h = getD-set-other (set l e a) (256 + e) e b 0 (omega arith) ∙ getD-set-same l e a 0 h
+
+  other-there : 256 + e < length l → getD two-set (256 + e) 0 ≡ b
+  other-there h = getD-set-same (set l e a) (256 + e) b 0 (simp length-set h)
+
+  rest-there : (j : ℕ) → j ≢ e → j ≢ 256 + e → getD two-set j 0 ≡ getD l j 0
+  rest-there j h h′ = getD-set-other (set l e a) (256 + e) j b 0 h′ ∙ getD-set-other l e j a 0 h
 
 -- one edge more
-pub edge-more : (c s p : List ℕ) (e n k m : ℕ) → m < 255 → e < length c → e < length s → e < length p
-    → made-edges (set c e n) (set s e k) (set p e m) (e + 1) ≡ made-edges c s p e ++ (made n k m ∷ [])
+pub edge-more : (ends edges : List ℕ) (e n k m : ℕ) → e < 256 → m < 255 → length ends ≡ 544 → length edges ≡ 512
+    → (stored-edges (two-set ends e n k) (two-set edges e m 0) (e + 1) ≡ stored-edges ends edges e ++ (made n k m ∷ []))
+    × (drop 512 (two-set ends e n k) ≡ drop 512 ends)
 unfolding stored-edges stored-edge
-edge-more c s p e n k m h h₁ h₂ h₃ =
-    one-entry-more (stored-edge (set c e n) (set s e k) (set p e m) []) e
-    ∙ rw (getD-set-same c e n 0 h₁, getD-set-same s e k 0 h₂, getD-set-same p e m 0 h₃, ne-eqb m 255 (λ x. omega (arith, x)))
-    (ap (λ (l : List Edge). l ++ (made n k m ∷ []))
-    (same-table (stored-edge (set c e n) (set s e k) (set p e m) []) (stored-edge c s p []) e
-    (λ j l. rw (getD-set-other c e j n 0 (omega arith), getD-set-other s e j k 0 (omega arith), getD-set-other p e j m 0 (omega arith)))))
+edge-more ends edges e n k m h h′ s s′ = (
+  one-entry-more (stored-edge (two-set ends e n k) (two-set edges e m 0)) e
+      ∙ rw (
+        one-there ends e n k (omega arith),
+        other-there ends e n k (omega arith),
+        one-there edges e m 0 (omega arith),
+        other-there edges e m 0 (omega arith),
+        ne-eqb m 255 (λ x. omega (arith, x)),
+      )
+      (ap (λ (l : List Edge). l ++ (made n k m ∷ []))
+      (same-table (stored-edge (two-set ends e n k) (two-set edges e m 0)) (stored-edge ends edges) e
+      (λ j l. rw (
+        rest-there ends e n k j (omega arith) (omega arith),
+        rest-there ends e n k (256 + j) (omega arith) (omega arith),
+        rest-there edges e m 0 j (omega arith) (omega arith),
+        rest-there edges e m 0 (256 + j) (omega arith) (omega arith),
+      )))),
+  drop-set-lt 512 (set ends e n) (256 + e) k (omega arith) ∙ drop-set-lt 512 ends e n (omega arith),
+)
+
+-- the number of a first in-edge is no part of an edge
+pub first-set : (ends edges : List ℕ) (m v n : ℕ) → n ≤ 256 → stored-edges (set ends (512 + m) v) edges n ≡ stored-edges ends edges n
+unfolding stored-edges stored-edge
+first-set ends edges m v n h =
+    same-table (stored-edge (set ends (512 + m) v) edges) (stored-edge ends edges) n
+    (λ j l. rw (getD-set-other ends (512 + m) j v 0 (omega arith), getD-set-other ends (512 + m) (256 + j) v 0 (omega arith)))
 
 -- the edges into n from one input more
 numbered-more : {A : Type 0} (k : ℕ) (l : List A) (a : A) → numbered k (l ++ (a ∷ [])) ≡ numbered k l ++ ((k + length l, a) ∷ [])
@@ -61,25 +97,26 @@ between a b places = drop a (take b places)
 length-between : (a b : ℕ) (places : List ℕ) → b ≤ length places → length (between a b places) ≡ b - a
 length-between a b places h = simp (length-drop, length-take) (omega arith)
 
-module _ (n a b : ℕ) (places c s p : List ℕ) (e : ℕ) where
-  abbrev pub So-far : ℕ → List ℕ → List ℕ → List ℕ → Type 0
-  So-far k c′ s′ p′ = made-edges c′ s′ p′ (e + k) ≡ made-edges c s p e ++ edges-into (λ j. j) n (take k (between a b places))
-
-  pub none-linked : So-far 0 c s p
+module _ {n e : ℕ} {ends edges : List ℕ} where
+  pub none-linked : Linked n [] ends edges e ends edges (e + 0)
   unfolding edges-into numbered
-  none-linked = let z : e + 0 ≡ e = omega arith in rw (z, append-nil)
+  none-linked = let z : e + 0 ≡ e = omega arith in record { count = refl; linked = rw (z, append-nil); firsts = refl }
 
-  pub next-linked : (k : ℕ) (c′ s′ p′ c″ s″ p″ : List ℕ) → b ≤ length places → k < b - a → So-far k c′ s′ p′
-      → made-edges c″ s″ p″ (e + k + 1) ≡ made-edges c′ s′ p′ (e + k) ++ (made n k (getD places (a + k) 0) ∷ []) → So-far (k + 1) c″ s″ p″
-  next-linked k c′ s′ p′ c″ s″ p″ h l q r =
-      let z : e + (k + 1) ≡ e + k + 1 = omega arith in
-      let v : getD (between a b places) k 0 ≡ getD places (a + k) 0 = getD-drop a (take b places) k 0 ∙ getD-take b places (a + k) 0 (omega arith) in
-      rw (z, r, q, into-more n k (between a b places) (omega (arith, length-between a b places h)), v)
-      (append-assoc (made-edges c s p e) (edges-into (λ j. j) n (take k (between a b places))) (made n k (getD places (a + k) 0) ∷ []))
+  module _ (a b k : ℕ) (places : List ℕ) {ends′ edges′ : List ℕ} (h : b ≤ length places) (r : Linked n (take k (between a b places)) ends edges e ends′ edges′ (e + k)) where
+    pub next-linked : {ends″ edges″ : List ℕ} → k < b - a
+        → (stored-edges ends″ edges″ (e + k + 1) ≡ stored-edges ends′ edges′ (e + k) ++ (made n k (getD places (a + k) 0) ∷ [])) × (drop 512 ends″ ≡ drop 512 ends′)
+        → Linked n (take (k + 1) (between a b places)) ends edges e ends″ edges″ (e + (k + 1))
+    next-linked l q =
+        let z : e + (k + 1) ≡ e + k + 1 = omega arith in
+        let v : getD (between a b places) k 0 ≡ getD places (a + k) 0 = getD-drop a (take b places) k 0 ∙ getD-take b places (a + k) 0 (omega arith) in
+        let size = length-between a b places h in
+        record {
+          count = simp length-take (omega arith);
+          linked =
+              rw (z, q .0, r .linked, into-more n k (between a b places) (omega arith), v)
+              (append-assoc (stored-edges ends edges e) (edges-into (λ j. j) n (take k (between a b places))) (made n k (getD places (a + k) 0) ∷ []));
+          firsts = q .1 ∙ r .firsts;
+        }
 
-  pub all-linked : (k : ℕ) (c′ s′ p′ : List ℕ) → b ≤ length places → k ≡ b - a → So-far k c′ s′ p′ → Linked n (between a b places) c s p e c′ s′ p′ (e + (b - a))
-  all-linked k c′ s′ p′ h l q =
-      record {
-        count = omega (arith, length-between a b places h);
-        edges = rw (l, take-all (b - a) (between a b places) (omega (arith, length-between a b places h))) at q;
-      }
+    pub all-linked : k ≡ b - a → Linked n (between a b places) ends edges e ends′ edges′ (e + (b - a))
+    all-linked l = rw (l, take-all (b - a) (between a b places) (omega (arith, length-between a b places h))) at r

@@ -15,7 +15,7 @@ use Rattle.plan.specs.Faults.{named}
 use Rattle.plan.specs.Graph.{Edge, graph, sinks, is-cache}
 use Rattle.plan.specs.Visit.{is-into, no-edge}
 use Rattle.storage.specs.Stored.{stored-steps, Step-formed}
-use Rattle.storage.specs.Edges.{stored-edge, In-a-row}
+use Rattle.storage.specs.Edges.{stored-edge, stored-edges, In-a-row}
 use Rattle.plan.proofs.Booleans.{differ, equal}
 use Rattle.plan.proofs.Counts.{false-of, true-of, sum-reverse, times-same, times-other, same-number, only}
 use Rattle.claims.specs.Plan.{Plan}
@@ -26,7 +26,7 @@ use Rattle.claims.proofs.Reached.{followed-le}
 use Rattle.claims.proofs.Hits.{hits-named}
 use Rattle.claims.proofs.Visits.{length-numbered}
 use Rattle.claims.proofs.Places.{opened}
-use Rattle.ir_graph.specs.Edges.{made, made-edges}
+use Rattle.ir_graph.specs.Edges.{made}
 use Rattle.ir_graph.proofs.Linking.{length-edges}
 use Rattle.ir_graph.proofs.There.{edge-there}
 use Rattle.plan.proofs.ListLaws.{select-append}
@@ -217,30 +217,32 @@ module _ (bytes : List ℕ) (n : ℕ) (small : n ≤ 32) (plan : Plan (stored-st
 
 -- Where they are stored ----------------------------------------------------------------------------------------------------------
 
-module _ (ps : List Step) (c s p firsts : List ℕ) (e m : ℕ) (r : In-row ps (made-edges c s p e) m (getD firsts m 0)) where
+module _ (ps : List Step) (ends edges : List ℕ) (n m : ℕ) (r : In-row ps (stored-edges ends edges n) m (getD ends (512 + m) 0)) where
   abbrev es : List Edge
-  es = made-edges c s p e
+  es = stored-edges ends edges n
+
+  abbrev first : ℕ
+  first = getD ends (512 + m) 0
 
   abbrev many : ℕ
   many = length (step-at ps m .inputs)
 
-  into-at : (k : ℕ) → k < e → is-into m (getD es k no-edge) ≡ eqb (getD c k 0) m
+  into-at : (k : ℕ) → k < n → is-into m (getD es k no-edge) ≡ eqb (getD ends k 0) m
   unfolding stored-edge
-  into-at k h = ap (is-into m) (edge-there c s p e k h)
+  into-at k h = ap (is-into m) (edge-there ends edges n k h)
 
-  in-run : (k : ℕ) → k < e → getD c k 0 ≡ m → (getD firsts m 0 ≤ k) × (k < getD firsts m 0 + many)
-  in-run k h v =
-      passes-only (is-into m) es no-edge (getD firsts m 0) many (r .row) k (rw (length-edges c s p e) h) (rw (into-at k h) (equal (getD c k 0) m v))
+  in-run : (k : ℕ) → k < n → getD ends k 0 ≡ m → (first ≤ k) × (k < first + many)
+  in-run k h v = passes-only (is-into m) es no-edge first many (r .row) k (rw (length-edges ends edges n) h) (rw (into-at k h) (equal (getD ends k 0) m v))
 
-  pub in-a-row : In-a-row c firsts e m
+  pub in-a-row : In-a-row ends n m
   in-a-row =
-      let size = length-edges c s p e in
+      let size = length-edges ends edges n in
       record {
         few = omega (arith, r .fits);
         from = λ k h v. in-run k h v .0;
         row =
             λ j k a b h v.
             let last = in-run k h v .1 in
-            eqb→eq (getD c j 0) m
-            (rw (into-at j (omega arith)) at (passes-in (is-into m) es no-edge (getD firsts m 0) many (r .row) j (r .fits) a (omega arith)));
+            eqb→eq (getD ends j 0) m
+            (rw (into-at j (omega arith)) at (passes-in (is-into m) es no-edge first many (r .row) j (r .fits) a (omega arith)));
       }

@@ -1,15 +1,15 @@
 -- What a test selects from a list, where that is a run of its entries.
-use mathlib.Core.Path.{_≡_, refl, ap}
+use mathlib.Core.Path.{_≡_, refl}
 use Prim.Native.Nat.{ℕ, _+_, _-_, _≤_, _<_}
 use native.Mathlib.Omega.{arith}
 use native.Mathlib.Decide.{decLt}
 use mathlib.Core.Bool.{Bool, true, false}
-use mathlib.Core.List.{List, [], _∷_, _++_}
+use mathlib.Core.List.{List, [], _∷_}
 use lib.Dec.{T}
 use lib.ListN.{length, getD, take, drop, length-take, length-drop, take-append-drop}
 use lib.Seq.{getD-take, getD-drop}
 use Rattle.plan.specs.Lists.{if_then_else_, select, all?, sum}
-use Rattle.plan.proofs.ListLaws.{sum-append, select-append}
+use Rattle.plan.proofs.ListLaws.{sum-append}
 use Rattle.plan.proofs.Booleans.{and-both, all-at}
 use Rattle.plan.proofs.Counts.{T-of, mem-at, count, counted-in}
 

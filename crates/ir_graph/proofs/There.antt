@@ -3,7 +3,7 @@ use mathlib.Core.Path.{_≡_, sym, ap, _∙_}
 use Prim.Native.Nat.{ℕ, zero, suc, _+_, _≤_, _<_}
 use native.Mathlib.Omega.{arith}
 use mathlib.Core.Bool.{Bool, true, false}
-use mathlib.Core.List.{List, [], List·Memᴰ}
+use mathlib.Core.List.{List, List·Memᴰ}
 use mathlib.Core.Option.{Option, none, some}
 use lib.Dec.{eqb}
 use Rattle.plan.specs.Lists.{if_then_else_}
@@ -22,12 +22,11 @@ use Rattle.claims.specs.Plan.{Plan}
 use Rattle.claims.proofs.Plans.{root-there, input-there}
 use Rattle.claims.proofs.MergedPlan.{ordered-own}
 use Rattle.storage.specs.Edges.{producer-of, stored-edge, stored-edges}
-use Rattle.ir_graph.specs.Edges.{made-edges}
 use Rattle.ir_graph.proofs.Linking.{length-edges}
 
-pub edge-there : (c s p : List ℕ) (e k : ℕ) → k < e → getD (made-edges c s p e) k no-edge ≡ stored-edge c s p [] k
+pub edge-there : (ends edges : List ℕ) (n k : ℕ) → k < n → getD (stored-edges ends edges n) k no-edge ≡ stored-edge ends edges k
 unfolding stored-edges
-edge-there c s p e k h = table-at (stored-edge c s p []) e k no-edge h
+edge-there ends edges n k h = table-at (stored-edge ends edges) n k no-edge h
 
 produced : (x y : ℕ) → producer-of x ≡ some y → x ≡ y
 produced x y = by (eqb x 255)
@@ -36,29 +35,32 @@ produced x y = by (eqb x 255)
     by true e = let z : _≡_ {A = ℕ} 0 1 = cc in absurd (omega arith)
     by false e = same-some e
 
-module _ (ps : List Step) (c s p : List ℕ) (e : ℕ) (edges : made-edges c s p e ≡ graph ps .1) where
-  pub length-graph : length (graph ps .1) ≡ e
-  length-graph = ap length (sym edges) ∙ length-edges c s p e
+module _ (ps : List Step) (ends edges : List ℕ) (n : ℕ) (same : stored-edges ends edges n ≡ graph ps .1) where
+  pub length-graph : length (graph ps .1) ≡ n
+  length-graph = ap length (sym same) ∙ length-edges ends edges n
 
-  pub edge-at : (k : ℕ) → k < e → getD (graph ps .1) k no-edge ≡ stored-edge c s p [] k
-  edge-at k h = rw (← edges) (edge-there c s p e k h)
+  pub edge-at : (k : ℕ) → k < n → getD (graph ps .1) k no-edge ≡ stored-edge ends edges k
+  edge-at k h = rw (← same) (edge-there ends edges n k h)
 
-  module _ (plan : Plan ps) (k : ℕ) (h : k < e) where
+  module _ (plan : Plan ps) (k : ℕ) (h : k < n) where
+    abbrev inputs : List ℕ
+    inputs = step-at ps (getD ends k 0) .inputs
+
     -- an edge comes from the input that its slot names
-    from-input : (getD s k 0 < length (step-at ps (getD c k 0) .inputs)) × (producer-of (getD p k 0) ≡ some (getD (step-at ps (getD c k 0) .inputs) (getD s k 0) 0))
+    from-input : (getD ends (256 + k) 0 < length inputs) × (producer-of (getD edges k 0) ≡ some (getD inputs (getD ends (256 + k) 0) 0))
     unfolding stored-edge
     from-input = rw (edge-at k h) at (ordered-own ps plan .made (getD (graph ps .1) k no-edge) (mem-at (graph ps .1) k no-edge (omega (arith, length-graph))))
 
-    pub slot-there : getD s k 0 < length (step-at ps (getD c k 0) .inputs)
+    pub slot-there : getD ends (256 + k) 0 < length inputs
     slot-there = from-input .0
 
-    pub consumer-there : getD c k 0 < length ps
-    consumer-there = has-inputs ps (getD c k 0) (omega (arith, slot-there))
+    pub consumer-there : getD ends k 0 < length ps
+    consumer-there = has-inputs ps (getD ends k 0) (omega (arith, slot-there))
 
-    pub producer-there : getD p k 0 < length ps
+    pub producer-there : getD edges k 0 < length ps
     producer-there =
-        let inputs = step-at ps (getD c k 0) .inputs in
-        rw (produced (getD p k 0) (getD inputs (getD s k 0) 0) (from-input .1)) (input-there ps plan (getD c k 0) (getD inputs (getD s k 0) 0) (mem-at inputs (getD s k 0) 0 slot-there))
+        let m = getD inputs (getD ends (256 + k) 0) 0 in
+        rw (produced (getD edges k 0) m (from-input .1)) (input-there ps plan (getD ends k 0) m (mem-at inputs (getD ends (256 + k) 0) 0 slot-there))
 
 module _ (ps : List Step) (plan : Plan ps) where
   -- a root or an input

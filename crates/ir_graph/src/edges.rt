@@ -3,61 +3,48 @@ ghost use mathlib.Core.Path.{_≡_};
 ghost use mathlib.Core.List.{[], _∷_, _++_};
 ghost use Prim.Native.Nat.{ℕ, _+_, _-_, _≤_, _<_};
 ghost use lib.ListN.{getD, take, drop};
-ghost use Rattle.ir_graph.specs.Edges.{made, made-edges, Linked};
-use plan::sizes::size_256;
+ghost use Rattle.storage.specs.Edges.{stored-edges};
+ghost use Rattle.ir_graph.specs.Edges.{made, Linked};
 use plan::sizes::size_288;
+use plan::sizes::size_512;
+use plan::sizes::size_544;
 
-// The edge number e, from `input` into the slot k of the step.
-fn make_edge(
-    consumer: &mut [u8; 256],
-    slot: &mut [u8; 256],
-    producer: &mut [u8; 256],
-    e: usize,
-    step: u8,
-    k: u8,
-    input: u8,
-)
+// The edge number e, from `input` into the slot k of the step. It is ordered.
+fn make_edge(ends: &mut [u8; 544], edges: &mut [u8; 512], e: usize, step: u8, k: u8, input: u8)
     requires { ⌜ (e < 256) × (input < 255) ⌝ }
-    ensures { λ r. ⌜ made-edges (now (consumer .exit)) (now (slot .exit)) (now (producer .exit)) (e + 1) ≡ made-edges (now (consumer .entry)) (now (slot .entry)) (now (producer .entry)) e ++ (made step k input ∷ []) ⌝ }
+    ensures { λ r. ⌜ stored-edges (now (ends .exit)) (now (edges .exit)) (e + 1) ≡ stored-edges (now (ends .entry)) (now (edges .entry)) e ++ (made step k input ∷ []) ⌝ }
+    ensures { λ r. ⌜ drop 512 (now (ends .exit)) ≡ drop 512 (now (ends .entry)) ⌝ }
 {
-    size_256(consumer);
-    size_256(slot);
-    size_256(producer);
-    consumer[e] = step;
-    slot[e] = k;
-    producer[e] = input;
+    size_544(ends);
+    size_512(edges);
+    ends[e] = step;
+    ends[256 + e] = k;
+    edges[e] = input;
+    edges[256 + e] = 0;
 }
 
-// An edge from each input of the step, which are the places from `start` to `end`. The result is how many edges there are then.
+// An edge from each input of the step, which are the places from `start` to `end`, behind the first `made`. The result is how many
+// edges there are then.
 pub fn link(
     step: u8,
     places: &[u8; 288],
     start: usize,
     end: usize,
-    consumer: &mut [u8; 256],
-    slot: &mut [u8; 256],
-    producer: &mut [u8; 256],
-    edges: usize,
+    ends: &mut [u8; 544],
+    edges: &mut [u8; 512],
+    made: usize,
 ) -> usize
     requires { ⌜ (start ≤ end) × (end ≤ start + 8) × (end ≤ 288) ⌝ }
-    requires { ⌜ edges + (end - start) ≤ 256 ⌝ }
+    requires { ⌜ made + (end - start) ≤ 256 ⌝ }
     requires { ⌜ ((k : ℕ) → start ≤ k → k < end → getD (now places) k 0 < 255) ⌝ }
-    ensures { λ r. ⌜ Linked step (drop start (take end (now (places .entry)))) (now (consumer .entry)) (now (slot .entry)) (now (producer .entry)) edges (now (consumer .exit)) (now (slot .exit)) (now (producer .exit)) r ⌝ }
+    ensures { λ r. ⌜ Linked step (drop start (take end (now (places .entry)))) (now (ends .entry)) (now (edges .entry)) made (now (ends .exit)) (now (edges .exit)) r ⌝ }
 {
     size_288(places);
     let num_inputs = end - start;
     let mut k: usize = 0;
     while k < num_inputs {
-        make_edge(
-            consumer,
-            slot,
-            producer,
-            edges + k,
-            step,
-            k as u8,
-            places[start + k],
-        );
+        make_edge(ends, edges, made + k, step, k as u8, places[start + k]);
         k = k + 1;
     }
-    edges + num_inputs
+    made + num_inputs
 }

@@ -13,8 +13,8 @@ use crate::edges::link;
 use crate::hits::count_hits;
 use crate::roots::push_roots;
 use crate::stored::copy_inputs;
-use plan::sizes::size_32;
 use plan::sizes::size_288;
+use plan::sizes::size_544;
 use storage::steps::is_cache;
 
 // The inputs that follow the place of the step i: a Cache's follow at its last place.
@@ -55,35 +55,33 @@ fn grow(
     n: usize,
     hits: &mut [u8; 32],
     places: &mut [u8; 288],
-    consumer: &mut [u8; 256],
-    slot: &mut [u8; 256],
-    producer: &mut [u8; 256],
-    in_edges: &mut [u8; 32],
+    ends: &mut [u8; 544],
+    edges: &mut [u8; 512],
 ) -> Graph
     requires { ⌜ n ≤ 32 ⌝ }
     requires { ⌜ Plan (stored-steps (now steps) n) ⌝ }
     requires { ⌜ ((i : ℕ) → i < n → Step-formed (now steps) i) ⌝ }
     requires { ⌜ Hits-counted (stored-steps (now steps) n) (now hits) ⌝ }
-    requires { ⌜ ((i : ℕ) → getD (now in_edges) i 0 ≡ 0) ⌝ }
-    ensures { λ r. ⌜ Built (stored-steps (now (steps .entry)) n) (now (places .exit)) (now (consumer .exit)) (now (slot .exit)) (now (producer .exit)) (now (in_edges .exit)) r ⌝ }
+    requires { ⌜ ((i : ℕ) → getD (now ends) i 0 ≡ 0) ⌝ }
+    ensures { λ r. ⌜ Built (stored-steps (now (steps .entry)) n) (now (places .exit)) (now (ends .exit)) (now (edges .exit)) r ⌝ }
 {
     size_288(places);
-    size_32(in_edges);
+    size_544(ends);
     let mut len = push_roots(steps, n, places);
-    let mut edges: usize = 0;
+    let mut made: usize = 0;
     let mut i: usize = 0;
     while i < len {
         let current = places[i];
         let start = len;
         // a Cache's is written at each of its places: that of the last, where its edges are made, stays
-        in_edges[current as usize] = edges as u8;
+        ends[512 + (current as usize)] = made as u8;
         len = follow(steps, current as usize, places, start, hits);
-        edges = link(current, places, start, len, consumer, slot, producer, edges);
+        made = link(current, places, start, len, ends, edges, made);
         i = i + 1;
     }
     Graph {
         places: len,
-        edges: edges,
+        edges: made,
     }
 }
 
@@ -92,28 +90,17 @@ pub fn build_ir_traversal_graph(
     steps: &[u8; 1024],
     n: usize,
     places: &mut [u8; 288],
-    consumer: &mut [u8; 256],
-    slot: &mut [u8; 256],
-    producer: &mut [u8; 256],
-    in_edges: &mut [u8; 32],
+    ends: &mut [u8; 544],
+    edges: &mut [u8; 512],
 ) -> Graph
     requires { ⌜ n ≤ 32 ⌝ }
     requires { ⌜ Plan (stored-steps (now steps) n) ⌝ }
     requires { ⌜ ((i : ℕ) → i < n → Step-formed (now steps) i) ⌝ }
-    requires { ⌜ ((i : ℕ) → getD (now in_edges) i 0 ≡ 0) ⌝ }
-    ensures { λ r. ⌜ Built (stored-steps (now (steps .entry)) n) (now (places .exit)) (now (consumer .exit)) (now (slot .exit)) (now (producer .exit)) (now (in_edges .exit)) r ⌝ }
+    requires { ⌜ ((i : ℕ) → getD (now ends) i 0 ≡ 0) ⌝ }
+    ensures { λ r. ⌜ Built (stored-steps (now (steps .entry)) n) (now (places .exit)) (now (ends .exit)) (now (edges .exit)) r ⌝ }
 {
     let mut hits: [u8; 32] = [0; 32];
     let mut met: [u8; 288] = [0; 288];
     count_hits(steps, n, &mut hits, &mut met);
-    grow(
-        steps,
-        n,
-        &mut hits,
-        places,
-        consumer,
-        slot,
-        producer,
-        in_edges,
-    )
+    grow(steps, n, &mut hits, places, ends, edges)
 }

@@ -1,33 +1,25 @@
--- The edges after they are loosened and relinked, from what the loops do to the arrays.
-use mathlib.Core.Path.{_≡_, refl, sym, ap, ap₂, _∙_}
-use mathlib.Core.Logic.{_⊎_, inl, inr}
-use Prim.Native.Nat.{ℕ, _≤_, _<_}
+-- The edges after they are loosened and relinked, from what the loops do to the array.
+use mathlib.Core.Path.{_≡_, refl, sym, ap, ap₂, _∙_, subst}
+use mathlib.Core.Logic.{_≢_, _⊎_, inl, inr}
+use Prim.Native.Nat.{ℕ, _+_, _≤_, _<_}
 use native.Mathlib.Omega.{arith}
-use native.Mathlib.Decide.{decLt}
-use mathlib.Core.Bool.{Bool, true, false, _&&_, _||_, not}
+use native.Mathlib.Decide.{decLt, ℕ-discrete}
+use mathlib.Core.Bool.{Bool, true, false, _&&_, _||_, not, or-false}
 use mathlib.Core.List.{List, [], _∷_, map}
 use mathlib.Core.Option.{Option, none}
 use lib.Dec.{eqb}
-use lib.ListN.{getD}
-use Rattle.plan.specs.Lists.{if_then_else_}
+use lib.ListN.{length, getD, set, length-set}
+use Rattle.plan.specs.Lists.{if_then_else_, yes?}
 use Rattle.plan.specs.Graph.{Edge}
-use Rattle.storage.proofs.Laws.{same-table}
 use Rattle.plan.specs.declared.rules.Loosened.{Loosened}
 use Rattle.plan.specs.Visit.{is-into, is-out-of, loosened, relinked}
-use Rattle.node_rules.specs.declared.around.InEdges.{InEdges}
 use Rattle.storage.specs.Edges.{producer-of, stored-edge, stored-edges}
+use Rattle.storage.proofs.Laws.{same-table}
+use Rattle.storage.proofs.EdgeStores.{with-mark, with-producer, mark-stored, mark-elsewhere, producer-stored, producer-elsewhere}
+use Rattle.node_rules.specs.declared.around.InEdges.{InEdges}
 use Rattle.node_rules.specs.Held.{In-run, ins-of, outs-of, handed-on, cut-off}
-use Rattle.node_rules.proofs.EdgeLaws.{out-of-held, map-table, Changed}
+use Rattle.node_rules.proofs.EdgeLaws.{out-of-held, map-table}
 use Rattle.node_rules.proofs.InEdges.{inside, outside}
-
--- edges that are changed one by one
-each-edge : (c s p p′ : List ℕ) (u u′ : List Bool) (edges : ℕ) (change : Edge → Edge)
-    → ((j : ℕ) → j < edges → stored-edge c s p′ u′ j ≡ change (stored-edge c s p u j))
-    → stored-edges c s p′ u′ edges ≡ map change (stored-edges c s p u edges)
-unfolding stored-edges
-each-edge c s p p′ u u′ edges change h =
-    same-table (stored-edge c s p′ u′) (λ j. change (stored-edge c s p u j)) edges h
-    ∙ sym (map-table change (stored-edge c s p u) 0 edges)
 
 map-twice : {A : Type 0} (f g h : A → A) → ((x : A) → f (g x) ≡ h x) → (l : List A) → map f (map g l) ≡ map h l
 map-twice f g h e [] = refl
@@ -37,20 +29,63 @@ map-same : {A : Type 0} (f : A → A) → ((x : A) → f x ≡ x) → (l : List 
 map-same f e [] = refl
 map-same {A} f e (x ∷ l) = ap₂ (λ (y : A) (r : List A). y ∷ r) (e x) (map-same f e l)
 
--- where an entry stands, of a run
-where-in : (d : InEdges) (j : ℕ) → ((d .from ≤ j) × (j < d .to)) ⊎ ((j < d .from) ⊎ (d .to ≤ j))
-where-in d j = by (decLt j (d .from)) (decLt j (d .to))
-  where
-    by : Dec (j < d .from) → Dec (j < d .to) → ((d .from ≤ j) × (j < d .to)) ⊎ ((j < d .from) ⊎ (d .to ≤ j))
-    by (yes a) b = inr (inl a)
-    by (no a) (yes b) = inl (omega (arith, a), b)
-    by (no a) (no b) = inr (inr (omega (arith, b)))
+-- A loop that changes edges, one after the other -------------------------------------------------------------------------------------
 
--- an entry outside of the run is as it was
-unchanged : {A : Type 0} (e : A) (change : ℕ → A) (old now : List A) (d : InEdges) (i j : ℕ) → d .to ≤ i → i ≤ d .to
-    → Changed e change old now (d .from) i → (j < d .from) ⊎ (d .to ≤ j) → getD now j e ≡ getD old j e
-unchanged e change old now d i j a b c (inl x) = c .before j x
-unchanged e change old now d i j a b c (inr x) = c .rest j (omega (arith, x))
+-- those from a up to i are changed, the others as they were
+pub record Changed (change : Edge → Edge) (ends old now : List ℕ) (a i : ℕ) : Type 0 where
+  pub done : (j : ℕ) → j < 256 → a ≤ j → j < i → stored-edge ends now j ≡ change (stored-edge ends old j)
+  pub rest : (j : ℕ) → j < 256 → (j < a) ⊎ (i ≤ j) → stored-edge ends now j ≡ stored-edge ends old j
+
+module _ (change : Edge → Edge) (ends old : List ℕ) (a : ℕ) where
+  pub none-changed : Changed change ends old old a a
+  none-changed = record { done = λ j h k l. absurd (omega arith); rest = λ j h k. refl }
+
+  -- the i-th and no other
+  pub one-changed : (l l′ : List ℕ) (i : ℕ) → a ≤ i → i < 256 → stored-edge ends l′ i ≡ change (stored-edge ends l i)
+      → ((j : ℕ) → j < 256 → j ≢ i → stored-edge ends l′ j ≡ stored-edge ends l j) → Changed change ends old l a i → Changed change ends old l′ a (i + 1)
+  one-changed l l′ i b h here elsewhere c =
+      record { done = λ j k m n. by j k m n (ℕ-discrete j i); rest = λ j k o. elsewhere j k (apart j o) ∙ c .rest j k (still j o) }
+    where
+      apart : (j : ℕ) → (j < a) ⊎ (i + 1 ≤ j) → j ≢ i
+      apart j (inl x) e = omega (arith, x, e)
+      apart j (inr x) e = omega (arith, x, e)
+
+      still : (j : ℕ) → (j < a) ⊎ (i + 1 ≤ j) → (j < a) ⊎ (i ≤ j)
+      still j (inl x) = inl x
+      still j (inr x) = inr (omega (arith, x))
+
+      by : (j : ℕ) → j < 256 → a ≤ j → j < i + 1 → Dec (j ≡ i) → stored-edge ends l′ j ≡ change (stored-edge ends old j)
+      by j k m n (yes x) =
+          subst (λ (q : ℕ). stored-edge ends l′ q ≡ change (stored-edge ends old q)) (sym x) (here ∙ ap change (c .rest i h (inr (omega arith))))
+      by j k m n (no x) = elsewhere j k x ∙ c .done j k m (omega (arith, x))
+
+module _ (ends old now : List ℕ) (len : ℕ) (few : len ≤ 256) where
+  each-edge : (change : Edge → Edge) → ((j : ℕ) → j < len → stored-edge ends now j ≡ change (stored-edge ends old j))
+      → stored-edges ends now len ≡ map change (stored-edges ends old len)
+  unfolding stored-edges
+  each-edge change h =
+      same-table (stored-edge ends now) (λ j. change (stored-edge ends old j)) len h ∙ sym (map-table change (stored-edge ends old) 0 len)
+
+  pub all-changed : (change : Edge → Edge) (i : ℕ) → len ≤ i → Changed change ends old now 0 i
+      → stored-edges ends now len ≡ map change (stored-edges ends old len)
+  all-changed change i h c = each-edge change (λ j k. c .done j (omega arith) (omega arith) (omega arith))
+
+  -- the edges into n, which are the run d
+  pub run-changed : (n : ℕ) (d : InEdges) → In-run ends len n d → (change whole : Edge → Edge)
+      → ((e : Edge) → is-into n e ≡ true → change e ≡ whole e) → ((e : Edge) → is-into n e ≡ false → e ≡ whole e)
+      → (i : ℕ) → d .to ≤ i → i ≤ d .to → Changed change ends old now (d .from) i
+      → stored-edges ends now len ≡ map whole (stored-edges ends old len)
+  unfolding stored-edge
+  run-changed n d run change whole those others i a b c = each-edge whole (λ j h. by j h (decLt j (d .from)) (decLt j (d .to)))
+    where
+      out : (j : ℕ) → j < len → (j < d .from) ⊎ (d .to ≤ j) → (j < d .from) ⊎ (i ≤ j) → stored-edge ends now j ≡ whole (stored-edge ends old j)
+      out j h x y = c .rest j (omega arith) y ∙ others (stored-edge ends old j) (outside ends old len n d run j h x)
+
+      by : (j : ℕ) → j < len → Dec (j < d .from) → Dec (j < d .to) → stored-edge ends now j ≡ whole (stored-edge ends old j)
+      by j h (yes x) y = out j h (inl x) (inl x)
+      by j h (no x) (yes y) =
+          c .done j (omega arith) (omega (arith, x)) (omega (arith, y)) ∙ those (stored-edge ends old j) (inside ends old len n d run j (omega (arith, x)) y)
+      by j h (no x) (no y) = out j h (inr (omega (arith, y))) (inr (omega (arith, y)))
 
 -- Loosened ---------------------------------------------------------------------------------------------------------------------------
 
@@ -68,14 +103,6 @@ neither l e = by (l .in0) (l .later) e
     by false true e = let z : _≡_ {A = ℕ} 0 1 = cc in absurd (omega arith)
     by false false e = (refl, refl)
 
-pub not-true : (b : Bool) → not b ≡ true → b ≡ false
-not-true true e = let z : _≡_ {A = ℕ} 0 1 = cc in absurd (omega arith)
-not-true false e = refl
-
-pub not-false : (b : Bool) → not b ≡ false → b ≡ true
-not-false true e = refl
-not-false false e = let z : _≡_ {A = ℕ} 0 1 = cc in absurd (omega arith)
-
 -- nothing is loosened
 pub none-loosened : (n : ℕ) (l : Loosened) → l .in0 ≡ false → l .later ≡ false → l .out ≡ false → (ds : List Edge) → ds ≡ map (loosened n l) ds
 none-loosened n l a b c ds = sym (map-same (loosened n l) one ds)
@@ -88,8 +115,7 @@ none-loosened n l a b c ds = sym (map-same (loosened n l) one ds)
     one : (d : Edge) → loosened n l d ≡ d
     one d =
         rw (a, b, c)
-        (ap (λ (u : Bool). record { consumer = d .consumer; slot = d .slot; producer = d .producer; unordered = u })
-        (by (d .unordered) (is-out-of n d) _ (not-in (is-into n d) (eqb (d .slot) 0))))
+        (ap (λ (u : Bool). with-mark u d) (by (d .unordered) (is-out-of n d) _ (not-in (is-into n d) (eqb (d .slot) 0))))
 
 -- those in, then those out
 pub both-loosened : (n : ℕ) (l : Loosened) (ds : List Edge) → map (loosened n (outs-of (l .out))) (map (loosened n (ins-of l)) ds) ≡ map (loosened n l) ds
@@ -102,65 +128,101 @@ both-loosened n l ds = map-twice (loosened n (outs-of (l .out))) (loosened n (in
 
     one : (d : Edge) → loosened n (outs-of (l .out)) (loosened n (ins-of l) d) ≡ loosened n l d
     one d =
-        ap (λ (u : Bool). record { consumer = d .consumer; slot = d .slot; producer = d .producer; unordered = u })
+        ap (λ (u : Bool). with-mark u d)
         (by (d .unordered || (is-into n d && (if eqb (d .slot) 0 then l .in0 else l .later))) (is-out-of n d) _ (not-in (is-into n d) (eqb (d .slot) 0)))
 
-module _ (consumer slot producer : List ℕ) (old new : List Bool) (edges n : ℕ) where
-  -- the edges into n, which are the run d
-  pub ins-loosened : (d : InEdges) (l : Loosened) (i : ℕ) → d .to ≤ i → i ≤ d .to → In-run consumer edges n d
-      → Changed false (λ j. getD old j false || (if eqb (getD slot j 0) 0 then l .in0 else l .later)) old new (d .from) i
-      → stored-edges consumer slot producer new edges ≡ map (loosened n (ins-of l)) (stored-edges consumer slot producer old edges)
+-- the mark that a loop stores
+marked-if : (b : Bool) (u : ℕ) → yes? (if b then 1 else u) ≡ (yes? u || b)
+marked-if b u = by b (yes? u) refl
+  where
+    by : (b m : Bool) → yes? u ≡ m → yes? (if b then 1 else u) ≡ (m || b)
+    by true true e = refl
+    by true false e = refl
+    by false true e = e
+    by false false e = e
+
+-- an edge into the step
+abbrev pub in-loosened : Loosened → Edge → Edge
+in-loosened l d = with-mark (d .unordered || (if eqb (d .slot) 0 then l .in0 else l .later)) d
+
+module _ (ends old : List ℕ) (a : ℕ) (edges : List ℕ) (k v : ℕ) (order : a ≤ k) (few : k < 256) (size : length edges ≡ 512) where
+  -- a mark is stored
+  next-marked : (change : Edge → Edge) → with-mark (yes? v) (stored-edge ends edges k) ≡ change (stored-edge ends edges k)
+      → Changed change ends old edges a k → Changed change ends old (set edges (256 + k) v) a (k + 1)
+  next-marked change e =
+      one-changed change ends old a edges (set edges (256 + k) v) k order few (mark-stored ends edges k v few size ∙ e) (mark-elsewhere ends edges k v few size)
+
+  pub next-in : (l : Loosened) → v ≡ (if (if eqb (getD ends (256 + k) 0) 0 then l .in0 else l .later) then 1 else getD edges (256 + k) 0)
+      → Changed (in-loosened l) ends old edges a k → Changed (in-loosened l) ends old (set edges (256 + k) v) a (k + 1)
   unfolding stored-edge
-  ins-loosened d l i a b run c = each-edge consumer slot producer producer old new edges (loosened n (ins-of l)) (λ j h. by j h (where-in d j))
-    where
-      edge : ℕ → Bool → Edge
-      edge j u = record { consumer = getD consumer j 0; slot = getD slot j 0; producer = producer-of (getD producer j 0); unordered = u }
+  next-in l e = next-marked (in-loosened l) (ap (λ (u : Bool). with-mark u (stored-edge ends edges k)) (ap yes? e ∙ marked-if _ (getD edges (256 + k) 0)))
 
-      mark : (i o u x : Bool) → (if i then u || x else u) ≡ (u || (i && x) || (o && false))
-      mark true true true x = refl
-      mark true false true x = refl
-      mark true true false true = refl
-      mark true true false false = refl
-      mark true false false true = refl
-      mark true false false false = refl
-      mark false true true x = refl
-      mark false true false x = refl
-      mark false false true x = refl
-      mark false false false x = refl
-
-      at : (j : ℕ) (i : Bool) → eqb (getD consumer j 0) n ≡ i
-          → getD new j false ≡ (if i then getD old j false || (if eqb (getD slot j 0) 0 then l .in0 else l .later) else getD old j false)
-          → stored-edge consumer slot producer new j ≡ loosened n (ins-of l) (stored-edge consumer slot producer old j)
-      at j i e v =
-          ap (edge j)
-          (v ∙ rw (← e) (mark (eqb (getD consumer j 0) n) (is-out-of n (stored-edge consumer slot producer old j)) (getD old j false) (if eqb (getD slot j 0) 0 then l .in0 else l .later)))
-
-      by : (j : ℕ) → j < edges → ((d .from ≤ j) × (j < d .to)) ⊎ ((j < d .from) ⊎ (d .to ≤ j))
-          → stored-edge consumer slot producer new j ≡ loosened n (ins-of l) (stored-edge consumer slot producer old j)
-      by j h (inl x) = at j true (inside consumer slot producer old edges n d run j (x .0) (x .1)) (c .done j (x .0) (omega (arith, x .1)))
-      by j h (inr x) = at j false (outside consumer slot producer old edges n d run j h x) (unchanged false _ old new d i j a b c x)
-
-  -- those out of it
-  pub outs-loosened : n < 32 → (i : ℕ) → edges ≤ i → Changed false (λ j. getD old j false || eqb (getD producer j 0) n) old new 0 i
-      → stored-edges consumer slot producer new edges ≡ map (loosened n (outs-of true)) (stored-edges consumer slot producer old edges)
+  pub next-out : (n : ℕ) → n < 32 → v ≡ (if eqb (getD edges k 0) n then 1 else getD edges (256 + k) 0)
+      → Changed (loosened n (outs-of true)) ends old edges a k → Changed (loosened n (outs-of true)) ends old (set edges (256 + k) v) a (k + 1)
   unfolding stored-edge
-  outs-loosened small i a c =
-      each-edge consumer slot producer producer old new edges (loosened n (outs-of true))
-      (λ j h. at j (c .done j (omega arith) (omega arith)) (out-of-held consumer slot producer old j n small))
+  next-out n small e =
+      next-marked (loosened n (outs-of true))
+      (ap (λ (u : Bool). with-mark u (stored-edge ends edges k))
+      (ap yes? e ∙ marked-if (eqb (getD edges k 0) n) (getD edges (256 + k) 0)
+      ∙ rw (out-of-held ends edges k n small) (mark (eqb (getD ends k 0) n) (eqb (getD edges k 0) n) (yes? (getD edges (256 + k) 0)) (eqb (getD ends (256 + k) 0) 0))))
     where
       mark : (i o u z : Bool) → (u || o) ≡ (u || (i && (if z then false else false)) || (o && true))
       mark i o true z = refl
       mark i true false z = rw (not-in i z)
       mark i false false z = rw (not-in i z)
 
-      at : (j : ℕ) → getD new j false ≡ (getD old j false || eqb (getD producer j 0) n)
-          → is-out-of n (stored-edge consumer slot producer old j) ≡ eqb (getD producer j 0) n
-          → stored-edge consumer slot producer new j ≡ loosened n (outs-of true) (stored-edge consumer slot producer old j)
-      at j v o =
-          ap (λ (u : Bool). record { consumer = getD consumer j 0; slot = getD slot j 0; producer = producer-of (getD producer j 0); unordered = u })
-          (v ∙ rw o (mark (eqb (getD consumer j 0) n) (eqb (getD producer j 0) n) (getD old j false) (eqb (getD slot j 0) 0)))
+  -- the producer is stored
+  pub next-handed-on : (n from : ℕ) → n < 32 → v ≡ (if eqb (getD edges k 0) n then from else getD edges k 0)
+      → Changed (handed-on n (producer-of from)) ends old edges a k → Changed (handed-on n (producer-of from)) ends old (set edges k v) a (k + 1)
+  unfolding stored-edge
+  next-handed-on n from small e =
+      one-changed (handed-on n (producer-of from)) ends old a edges (set edges k v) k order few
+      (producer-stored ends edges k v few size ∙ rw (out-of-held ends edges k n small, e) (by (eqb (getD edges k 0) n))) (producer-elsewhere ends edges k v few size)
+    where
+      edge : ℕ → Edge
+      edge p = with-producer (producer-of p) (stored-edge ends edges k)
 
--- Relinked ---------------------------------------------------------------------------------------------------------------------------
+      by : (o : Bool) → edge (if o then from else getD edges k 0) ≡ (if o then edge from else edge (getD edges k 0))
+      by true = refl
+      by false = refl
+
+-- an edge into a removed sort
+abbrev pub in-cut-off : Edge → Edge
+in-cut-off d = with-mark true (with-producer none d)
+
+pub next-cut-off : (ends old : List ℕ) (a : ℕ) (edges : List ℕ) (k : ℕ) → a ≤ k → k < 256 → length edges ≡ 512
+    → Changed in-cut-off ends old edges a k → Changed in-cut-off ends old (set (set edges k 255) (256 + k) 1) a (k + 1)
+next-cut-off ends old a edges k order few size =
+    one-changed in-cut-off ends old a edges (set (set edges k 255) (256 + k) 1) k order few
+    (mark-stored ends (set edges k 255) k 1 few held ∙ ap (with-mark true) (producer-stored ends edges k 255 few size))
+    (λ j h d. mark-elsewhere ends (set edges k 255) k 1 few held j h d ∙ producer-elsewhere ends edges k 255 few size j h d)
+  where
+    held : length (set edges k 255) ≡ 512
+    held = simp length-set size
+
+module _ (ends old now : List ℕ) (len n : ℕ) (few : len ≤ 256) (d : InEdges) (run : In-run ends len n d) (i : ℕ) (h : d .to ≤ i) (h′ : i ≤ d .to) where
+  pub ins-loosened : (l : Loosened) → Changed (in-loosened l) ends old now (d .from) i
+      → stored-edges ends now len ≡ map (loosened n (ins-of l)) (stored-edges ends old len)
+  ins-loosened l c =
+      run-changed ends old now len few n d run (in-loosened l) (loosened n (ins-of l))
+      (λ e t. ap (λ (u : Bool). with-mark u e) (those (is-into n e) (is-out-of n e) (e .unordered) (if eqb (e .slot) 0 then l .in0 else l .later) t))
+      (λ e f. ap (λ (u : Bool). with-mark u e) (others (is-into n e) (is-out-of n e) (e .unordered) (if eqb (e .slot) 0 then l .in0 else l .later) f))
+      i h h′ c
+    where
+      those : (i o u x : Bool) → i ≡ true → (u || x) ≡ (u || (i && x) || (o && false))
+      those i o true x t = refl
+      those i true false x t = rw t (sym (or-false x))
+      those i false false x t = rw t (sym (or-false x))
+
+      others : (i o u x : Bool) → i ≡ false → u ≡ (u || (i && x) || (o && false))
+      others i o true x f = refl
+      others i true false x f = rw f
+      others i false false x f = rw f
+
+  pub ins-cut-off : Changed in-cut-off ends old now (d .from) i → stored-edges ends now len ≡ map (cut-off n) (stored-edges ends old len)
+  ins-cut-off c = run-changed ends old now len few n d run in-cut-off (cut-off n) (λ e t. rw t) (λ e f. rw f) i h h′ c
+
+-- Both ways --------------------------------------------------------------------------------------------------------------------------
 
 -- those out handed on, then those in cut off
 pub both-relinked : (n : ℕ) (from : Option ℕ) (ds : List Edge) → map (cut-off n) (map (handed-on n from) ds) ≡ map (relinked n from) ds
@@ -170,52 +232,8 @@ both-relinked n from ds = map-twice (cut-off n) (handed-on n from) (relinked n f
     one d = by (is-out-of n d)
       where
         next : Bool → Edge
-        next o = if o then record { consumer = d .consumer; slot = d .slot; producer = from; unordered = d .unordered } else d
+        next o = if o then with-producer from d else d
 
-        by : (o : Bool) → cut-off n (next o)
-            ≡ (if is-into n d then record { consumer = d .consumer; slot = d .slot; producer = none; unordered = true } else next o)
+        by : (o : Bool) → cut-off n (next o) ≡ (if is-into n d then in-cut-off d else next o)
         by true = refl
         by false = refl
-
-module _ (consumer slot producer producer′ : List ℕ) (edges n : ℕ) where
-  pub outs-handed-on : n < 32 → (unordered : List Bool) (from i : ℕ) → edges ≤ i
-      → Changed 0 (λ j. if eqb (getD producer j 0) n then from else getD producer j 0) producer producer′ 0 i
-      → stored-edges consumer slot producer′ unordered edges ≡ map (handed-on n (producer-of from)) (stored-edges consumer slot producer unordered edges)
-  unfolding stored-edge
-  outs-handed-on small unordered from i a c =
-      each-edge consumer slot producer producer′ unordered unordered edges (handed-on n (producer-of from))
-      (λ j h. at j (c .done j (omega arith) (omega arith)) (out-of-held consumer slot producer unordered j n small))
-    where
-      edge : ℕ → ℕ → Edge
-      edge j p = record { consumer = getD consumer j 0; slot = getD slot j 0; producer = producer-of p; unordered = getD unordered j false }
-
-      by : (j : ℕ) (o : Bool) → edge j (if o then from else getD producer j 0) ≡ (if o then edge j from else edge j (getD producer j 0))
-      by j true = refl
-      by j false = refl
-
-      at : (j : ℕ) → getD producer′ j 0 ≡ (if eqb (getD producer j 0) n then from else getD producer j 0)
-          → is-out-of n (stored-edge consumer slot producer unordered j) ≡ eqb (getD producer j 0) n
-          → stored-edge consumer slot producer′ unordered j ≡ handed-on n (producer-of from) (stored-edge consumer slot producer unordered j)
-      at j v o = rw o (ap (edge j) v ∙ by j (eqb (getD producer j 0) n))
-
-  pub ins-cut-off : (old new : List Bool) (d : InEdges) (i : ℕ) → d .to ≤ i → i ≤ d .to → In-run consumer edges n d
-      → Changed 0 (λ _. 255) producer producer′ (d .from) i → Changed false (λ _. true) old new (d .from) i
-      → stored-edges consumer slot producer′ new edges ≡ map (cut-off n) (stored-edges consumer slot producer old edges)
-  unfolding stored-edge
-  ins-cut-off old new d i a b run c e = each-edge consumer slot producer producer′ old new edges (cut-off n) (λ j h. by j h (where-in d j))
-    where
-      edge : ℕ → ℕ → Bool → Edge
-      edge j p u = record { consumer = getD consumer j 0; slot = getD slot j 0; producer = producer-of p; unordered = u }
-
-      at : (j p : ℕ) (u i : Bool) → eqb (getD consumer j 0) n ≡ i → getD producer′ j 0 ≡ p → getD new j false ≡ u
-          → edge j p u ≡ (if i then edge j 255 true else stored-edge consumer slot producer old j)
-          → stored-edge consumer slot producer′ new j ≡ cut-off n (stored-edge consumer slot producer old j)
-      at j p u i t v w z = ap₂ (edge j) v w ∙ z ∙ rw t
-
-      by : (j : ℕ) → j < edges → ((d .from ≤ j) × (j < d .to)) ⊎ ((j < d .from) ⊎ (d .to ≤ j))
-          → stored-edge consumer slot producer′ new j ≡ cut-off n (stored-edge consumer slot producer old j)
-      by j h (inl x) =
-          at j 255 true true (inside consumer slot producer old edges n d run j (x .0) (x .1)) (c .done j (x .0) (omega (arith, x .1))) (e .done j (x .0) (omega (arith, x .1))) refl
-      by j h (inr x) =
-          at j (getD producer j 0) (getD old j false) false (outside consumer slot producer old edges n d run j h x) (unchanged 0 _ producer producer′ d i j a b c x)
-          (unchanged false _ old new d i j a b e x) refl

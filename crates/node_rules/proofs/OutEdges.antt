@@ -6,7 +6,7 @@ use native.Mathlib.Omega.{arith}
 use native.Mathlib.Numerals.{add-one}
 use native.Mathlib.Decide.{decLt}
 use borrow.Author.Tests.{eq-eqb, ne-eqb, lt-ltb, le-ltb}
-use mathlib.Core.Bool.{Bool, true, false, _&&_, _||_, not}
+use mathlib.Core.Bool.{Bool, true, false, _&&_, _||_, not, or-false, or-true}
 use mathlib.Core.List.{List, [], _∷_, _++_}
 use lib.Dec.{eqb, ltb}
 use lib.ListN.{getD, drop, List·getD-eq-default}
@@ -19,30 +19,31 @@ use Rattle.plan.specs.Visit.{is-out-of, no-edge, out-edge, outs-unordered}
 use Rattle.claims.specs.Demand3.{leaving-among}
 use Rattle.claims.proofs.Edges.{out-edge-at}
 use Rattle.storage.specs.Edges.{stored-edge, stored-edges}
+use Rattle.node_rules.specs.Held.{mark}
 use Rattle.node_rules.proofs.EdgeLaws.{out-of-held, all-last}
 
-module _ (consumer slot producer : List ℕ) (unordered : List Bool) (edges n : ℕ) (small : n < 32) where
+module _ (ends edges : List ℕ) (len n : ℕ) (small : n < 32) where
   abbrev edge : ℕ → Edge
-  edge = stored-edge consumer slot producer unordered
+  edge = stored-edge ends edges
 
   abbrev ds : List Edge
-  ds = stored-edges consumer slot producer unordered edges
+  ds = stored-edges ends edges len
 
   -- The first of them: k edges were gone through, and none of them is one ------------------------------------------------------------
 
   abbrev pub Leaves-from : ℕ → Type 0
   Leaves-from k = leaving-among n ds ≡ k + leaving-among n (drop k ds)
 
-  leaves : (k : ℕ) → k < edges → (b : Bool) → eqb (getD producer k 0) n ≡ b
+  leaves : (k : ℕ) → k < len → (b : Bool) → eqb (getD edges k 0) n ≡ b
       → leaving-among n (drop k ds) ≡ (if b then 0 else suc (leaving-among n (drop (k + 1) ds)))
   unfolding stored-edges leaving-among
   leaves k h b e =
-      rw (next, leaving-among, out-of-held consumer slot producer unordered k n small, e) (by b (leaving-among n (drop (k + 1) (table edge 0 edges))))
+      rw (next, leaving-among, out-of-held ends edges k n small, e) (by b (leaving-among n (drop (k + 1) (table edge 0 len))))
     where
-      next : drop k (table edge 0 edges) ≡ edge k ∷ drop (k + 1) (table edge 0 edges)
+      next : drop k (table edge 0 len) ≡ edge k ∷ drop (k + 1) (table edge 0 len)
       next =
-          drop-cons (table edge 0 edges) k no-edge (omega (arith, length-table edge 0 edges))
-          ∙ rw (table-at edge edges k no-edge h) (ap (λ (j : ℕ). edge k ∷ drop j (table edge 0 edges)) (sym (add-one k)))
+          drop-cons (table edge 0 len) k no-edge (omega (arith, length-table edge 0 len))
+          ∙ rw (table-at edge len k no-edge h) (ap (λ (j : ℕ). edge k ∷ drop j (table edge 0 len)) (sym (add-one k)))
 
       by : (b : Bool) (m : ℕ) → _≡_ {A = ℕ} (elim b [ true ↦ 0 | false ↦ suc m ]) (if b then 0 else suc m)
       by true m = refl
@@ -51,31 +52,31 @@ module _ (consumer slot producer : List ℕ) (unordered : List Bool) (edges n : 
   pub leaves-start : Leaves-from 0
   leaves-start = omega arith
 
-  pub leaves-here : (k : ℕ) → k < edges → getD producer k 0 ≡ n → Leaves-from k → k ≡ leaving-among n ds
-  leaves-here k h e v = omega (arith, v, leaves k h true (eq-eqb (getD producer k 0) n e))
+  pub leaves-here : (k : ℕ) → k < len → getD edges k 0 ≡ n → Leaves-from k → k ≡ leaving-among n ds
+  leaves-here k h e v = omega (arith, v, leaves k h true (eq-eqb (getD edges k 0) n e))
 
-  pub leaves-later : (k : ℕ) → k < edges → getD producer k 0 ≢ n → Leaves-from k → Leaves-from (k + 1)
-  leaves-later k h e v = omega (arith, v, leaves k h false (ne-eqb (getD producer k 0) n e))
+  pub leaves-later : (k : ℕ) → k < len → getD edges k 0 ≢ n → Leaves-from k → Leaves-from (k + 1)
+  leaves-later k h e v = omega (arith, v, leaves k h false (ne-eqb (getD edges k 0) n e))
 
-  pub none-leaves : (k : ℕ) → k ≡ edges → Leaves-from k → k ≡ leaving-among n ds
+  pub none-leaves : (k : ℕ) → k ≡ len → Leaves-from k → k ≡ leaving-among n ds
   unfolding stored-edges leaving-among
   none-leaves k i v =
-      let last : drop k (table edge 0 edges) ≡ [] =
-      ap (λ (j : ℕ). drop j (table edge 0 edges)) (i ∙ sym (length-table edge 0 edges)) ∙ drop-length (table edge 0 edges) in
-      let w : leaving-among n (table edge 0 edges) ≡ k + 0 = rw last at v in
+      let last : drop k (table edge 0 len) ≡ [] =
+      ap (λ (j : ℕ). drop j (table edge 0 len)) (i ∙ sym (length-table edge 0 len)) ∙ drop-length (table edge 0 len) in
+      let w : leaving-among n (table edge 0 len) ≡ k + 0 = rw last at v in
       omega (arith, w)
 
   -- is it unordered?
-  pub out-is : (k : ℕ) → k ≡ leaving-among n ds → (if ltb k edges then getD unordered k false else false) ≡ out-edge n ds .unordered
+  pub out-is : (k : ℕ) → k ≡ leaving-among n ds → (if ltb k len then mark edges k else false) ≡ out-edge n ds .unordered
   unfolding stored-edges stored-edge
-  out-is k e = by (decLt k edges) ∙ ap (λ (x : Edge). x .unordered) (ap (λ (m : ℕ). getD ds m no-edge) e ∙ out-edge-at n ds)
+  out-is k e = by (decLt k len) ∙ ap (λ (x : Edge). x .unordered) (ap (λ (m : ℕ). getD ds m no-edge) e ∙ out-edge-at n ds)
     where
-      by : Dec (k < edges) → (if ltb k edges then getD unordered k false else false) ≡ getD (table edge 0 edges) k no-edge .unordered
-      by (yes h) = rw (lt-ltb k edges h, table-at edge edges k no-edge h)
+      by : Dec (k < len) → (if ltb k len then mark edges k else false) ≡ getD (table edge 0 len) k no-edge .unordered
+      by (yes h) = rw (lt-ltb k len h, table-at edge len k no-edge h)
       by (no h) =
-          let none : getD (table edge 0 edges) k no-edge ≡ no-edge =
-          List·getD-eq-default (table edge 0 edges) no-edge (omega (arith, h, length-table edge 0 edges)) in
-          rw (le-ltb k edges (omega (arith, h)), none)
+          let none : getD (table edge 0 len) k no-edge ≡ no-edge =
+          List·getD-eq-default (table edge 0 len) no-edge (omega (arith, h, length-table edge 0 len)) in
+          rw (le-ltb k len (omega (arith, h)), none)
 
   -- All of them ------------------------------------------------------------------------------------------------------------------------
 
@@ -91,17 +92,9 @@ module _ (consumer slot producer : List ℕ) (unordered : List Bool) (edges n : 
       rest : List Edge
       rest = select (is-out-of n) l
 
-      or-false : (b : Bool) → b ≡ (b || false)
-      or-false true = refl
-      or-false false = refl
-
-      or-true : (b : Bool) → (b || true) ≡ true
-      or-true true = refl
-      or-true false = refl
-
       by : (o : Bool) → all? (λ (d : Edge). d .unordered) rest ≡ all? loose l
           → all? (λ (d : Edge). d .unordered) (if o then d ∷ rest else rest) ≡ ((d .unordered || not o) && all? loose l)
-      by true e = ap₂ (λ (x y : Bool). x && y) (or-false (d .unordered)) e
+      by true e = ap₂ (λ (x y : Bool). x && y) (sym (or-false (d .unordered))) e
       by false e = rw (or-true (d .unordered)) e
 
   -- the first k are gone through
@@ -112,15 +105,15 @@ module _ (consumer slot producer : List ℕ) (unordered : List Bool) (edges n : 
   unfolding table all?
   loose-none = refl
 
-  pub loose-next : (k : ℕ) (r : Bool) → Loose-to k r → Loose-to (k + 1) (r && (getD unordered k false || not (eqb (getD producer k 0) n)))
+  pub loose-next : (k : ℕ) (r : Bool) → Loose-to k r → Loose-to (k + 1) (r && (mark edges k || not (eqb (getD edges k 0) n)))
   unfolding stored-edge
   loose-next k r v =
-      ap₂ (λ (x o : Bool). x && (getD unordered k false || not o)) v (sym (out-of-held consumer slot producer unordered k n small))
+      ap₂ (λ (x o : Bool). x && (mark edges k || not o)) v (sym (out-of-held ends edges k n small))
       ∙ sym (ap (all? loose) one-more ∙ all-last loose (table edge 0 k) (edge k))
     where
       one-more : table edge 0 (k + 1) ≡ table edge 0 k ++ (edge k ∷ [])
       one-more = ap (table edge 0) (add-one k) ∙ table-more edge 0 k ∙ ap (λ (j : ℕ). table edge 0 k ++ (edge j ∷ [])) (omega arith)
 
-  pub outs-are : (k : ℕ) (r : Bool) → k ≡ edges → Loose-to k r → r ≡ outs-unordered n ds
+  pub outs-are : (k : ℕ) (r : Bool) → k ≡ len → Loose-to k r → r ≡ outs-unordered n ds
   unfolding outs-unordered stored-edges
-  outs-are k r i v = v ∙ ap (λ (m : ℕ). all? loose (table edge 0 m)) i ∙ sym (all-selected (table edge 0 edges))
+  outs-are k r i v = v ∙ ap (λ (m : ℕ). all? loose (table edge 0 m)) i ∙ sym (all-selected (table edge 0 len))

@@ -3,7 +3,7 @@ use mathlib.Core.Path.{_≡_, sym, ap, _∙_}
 use Prim.Native.Nat.{ℕ, _+_, _*_, _≤_, _<_}
 use native.Mathlib.Omega.{arith}
 use native.Mathlib.Decide.{decLt}
-use mathlib.Core.Bool.{Bool, true, false}
+use mathlib.Core.Bool.{true, false}
 use mathlib.Core.List.{List}
 use lib.ListN.{getD, drop, List·getD-eq-default}
 use lib.Seq.{getD-take, getD-drop}
@@ -16,38 +16,38 @@ use Rattle.claims.specs.Demand3.{leaving-among}
 use Rattle.claims.proofs.Edges.{out-edge-at}
 use Rattle.storage.specs.Edges.{stored-edge, stored-edges}
 
-module _ (consumer slot producer : List ℕ) (unordered : List Bool) (edges n k : ℕ)
-    (leaves : k ≡ leaving-among n (stored-edges consumer slot producer unordered edges))
-    (loose : out-edge n (stored-edges consumer slot producer unordered edges) .unordered ≡ true) where
+module _ (ends edges : List ℕ) (len n k : ℕ)
+    (leaves : k ≡ leaving-among n (stored-edges ends edges len))
+    (loose : out-edge n (stored-edges ends edges len) .unordered ≡ true) where
   abbrev ds : List Edge
-  ds = stored-edges consumer slot producer unordered edges
+  ds = stored-edges ends edges len
 
   at-number : out-edge n ds ≡ getD ds k no-edge
   at-number = sym (out-edge-at n ds) ∙ ap (λ (m : ℕ). getD ds m no-edge) (sym leaves)
 
   -- there is such an edge
-  pub edge-there : k < edges
+  pub edge-there : k < len
   unfolding stored-edges
-  edge-there = by (decLt k edges)
+  edge-there = by (decLt k len)
     where
-      by : Dec (k < edges) → k < edges
+      by : Dec (k < len) → k < len
       by (yes h) = h
       by (no h) =
           let none : getD ds k no-edge ≡ no-edge =
-          List·getD-eq-default ds no-edge (omega (arith, length-table (stored-edge consumer slot producer unordered) 0 edges)) in
+          List·getD-eq-default ds no-edge (omega (arith, length-table (stored-edge ends edges) 0 len)) in
           let clash : false ≡ true = sym (ap (λ (d : Edge). d .unordered) (at-number ∙ none)) ∙ loose in
           let z : _≡_ {A = ℕ} 0 1 = cc in
           absurd (omega arith)
 
-  edge-is : out-edge n ds ≡ stored-edge consumer slot producer unordered k
+  edge-is : out-edge n ds ≡ stored-edge ends edges k
   unfolding stored-edges
-  edge-is = at-number ∙ table-at (stored-edge consumer slot producer unordered) edges k no-edge edge-there
+  edge-is = at-number ∙ table-at (stored-edge ends edges) len k no-edge edge-there
 
-  pub its-consumer : out-edge n ds .consumer ≡ getD consumer k 0
+  pub its-consumer : out-edge n ds .consumer ≡ getD ends k 0
   unfolding stored-edge
   its-consumer = ap (λ (d : Edge). d .consumer) edge-is
 
-  pub its-slot : out-edge n ds .slot ≡ getD slot k 0
+  pub its-slot : out-edge n ds .slot ≡ getD ends (256 + k) 0
   unfolding stored-edge
   its-slot = ap (λ (d : Edge). d .slot) edge-is
 

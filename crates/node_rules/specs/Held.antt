@@ -5,26 +5,31 @@ use mathlib.Core.Bool.{Bool, true, false}
 use mathlib.Core.List.{List, map}
 use mathlib.Core.Option.{Option, none}
 use lib.ListN.{length, getD, set}
-use Rattle.plan.specs.Lists.{if_then_else_}
+use Rattle.plan.specs.Lists.{if_then_else_, yes?}
 use Rattle.plan.specs.Sheet.{Step, step-at}
 use Rattle.plan.specs.Graph.{Edge}
 use Rattle.storage.specs.Stored.{table}
 use Rattle.plan.specs.declared.rules.Loosened.{Loosened}
 use Rattle.plan.specs.Visit as Visit
+use Rattle.storage.specs.declared.edges.GraphSize.{GraphSize}
 use Rattle.node_rules.specs.declared.around.InEdges.{InEdges}
 
 -- The edges into a step --------------------------------------------------------------------------------------------------------------
 
 -- the edges into step n are those from one number up to another
-pub record In-run (consumer : List ℕ) (edges n : ℕ) (d : InEdges) : Type 0 where
+pub record In-run (ends : List ℕ) (len n : ℕ) (d : InEdges) : Type 0 where
   pub order : d .from ≤ d .to
-  pub fits : d .to ≤ edges
-  pub into : (k : ℕ) → k < edges → getD consumer k 0 ≡ n → (d .from ≤ k) × (k < d .to)
-  pub all : (k : ℕ) → d .from ≤ k → k < d .to → getD consumer k 0 ≡ n
+  pub fits : d .to ≤ len
+  pub into : (k : ℕ) → k < len → getD ends k 0 ≡ n → (d .from ≤ k) × (k < d .to)
+  pub all : (k : ℕ) → d .from ≤ k → k < d .to → getD ends k 0 ≡ n
 
--- which of them are unordered
-abbrev pub run-marks : List Bool → InEdges → List Bool
-run-marks unordered d = table (λ k. getD unordered k false) (d .from) (d .to - d .from)
+-- is edge k unordered?
+abbrev pub mark : List ℕ → ℕ → Bool
+mark edges k = yes? (getD edges (256 + k) 0)
+
+-- which of them are
+abbrev pub run-marks : List ℕ → InEdges → List Bool
+run-marks edges d = table (mark edges) (d .from) (d .to - d .from)
 
 -- Loosening: the edges into a step, then those out of it ---------------------------------------------------------------------------
 
@@ -47,12 +52,11 @@ cut-off n d =
 -- Edges and steps together ----------------------------------------------------------------------------------------------------------
 
 -- every edge leads to a slot of a step
-pub record Edges-held (bytes : List ℕ) (n : ℕ) (consumer slot producer : List ℕ) (unordered : List Bool) (edges : ℕ) : Type 0 where
-  pub few : edges ≤ 256
-  pub producers : length producer ≡ 256
-  pub marks : length unordered ≡ 256
-  pub there : (k : ℕ) → k < edges → getD consumer k 0 < n
-  pub slots : (k : ℕ) → k < edges → getD slot k 0 < getD bytes (getD consumer k 0 * 32 + 4) 0
+pub record Edges-held (steps : List ℕ) (size : GraphSize) (ends edges : List ℕ) : Type 0 where
+  pub few : size .edges ≤ 256
+  pub bytes : length edges ≡ 512
+  pub there : (k : ℕ) → k < size .edges → getD ends k 0 < size .steps
+  pub slots : (k : ℕ) → k < size .edges → getD ends (256 + k) 0 < getD steps (getD ends k 0 * 32 + 4) 0
 
 -- step n has an input, and an unordered edge leaves it
 pub record Unlinkable (bytes : List ℕ) (steps n : ℕ) (ds : List Edge) : Type 0 where

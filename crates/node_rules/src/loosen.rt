@@ -9,6 +9,7 @@ ghost use Rattle.plan.specs.Visit.{loosened};
 ghost use Rattle.storage.specs.Edges.{stored-edges};
 ghost use Rattle.node_rules.specs.Held.{In-run, ins-of, outs-of};
 use crate::around::InEdges;
+use plan::choice::pick_byte;
 use plan::rules::Loosened;
 
 // Is an edge into slot k loosened?
@@ -19,53 +20,52 @@ fn loosened_in(l: Loosened, k: u8) -> bool
 }
 
 // The edges into a step, which are d.
-fn loosen_in(slot: &[u8; 256], unordered: &mut [bool; 256], d: InEdges, l: Loosened)
-    requires { ⌜ (d .from ≤ d .to) × (d .to ≤ 256) × (length (now unordered) ≡ 256) ⌝ }
-    ensures { λ _. ⌜ ((consumer producer : List ℕ) (edges n : ℕ) → In-run consumer edges n d → stored-edges consumer (now (slot .entry)) producer (now (unordered .exit)) edges ≡ map (loosened n (ins-of l)) (stored-edges consumer (now (slot .entry)) producer (now (unordered .entry)) edges)) ⌝ }
-    ensures { λ _. ⌜ length (now (unordered .exit)) ≡ 256 ⌝ }
+fn loosen_in(ends: &[u8; 544], edges: &mut [u8; 512], d: InEdges, l: Loosened)
+    requires { ⌜ (d .from ≤ d .to) × (d .to ≤ 256) × (length (now edges) ≡ 512) ⌝ }
+    ensures { λ _. ⌜ ((len n : ℕ) → len ≤ 256 → In-run (now (ends .entry)) len n d → stored-edges (now (ends .entry)) (now (edges .exit)) len ≡ map (loosened n (ins-of l)) (stored-edges (now (ends .entry)) (now (edges .entry)) len)) ⌝ }
+    ensures { λ _. ⌜ length (now (edges .exit)) ≡ 512 ⌝ }
 {
     if !(l.in0 | l.later) {
         return;
     }
     let mut k = d.from;
     while k < d.to {
-        let u = unordered[k];
-        unordered[k] = u | loosened_in(l, slot[k]);
+        let u = edges[256 + k];
+        edges[256 + k] = pick_byte(loosened_in(l, ends[256 + k]), 1, u);
         k = k + 1;
     }
 }
 
-// The edges out of n.
-fn loosen_out(producer: &[u8; 256], unordered: &mut [bool; 256], edges: usize, n: u8, out: bool)
-    requires { ⌜ (edges ≤ 256) × (n < 32) × (length (now unordered) ≡ 256) ⌝ }
-    ensures { λ _. ⌜ ((consumer slot : List ℕ) → stored-edges consumer slot (now (producer .entry)) (now (unordered .exit)) edges ≡ map (loosened n (outs-of out)) (stored-edges consumer slot (now (producer .entry)) (now (unordered .entry)) edges)) ⌝ }
-    ensures { λ _. ⌜ length (now (unordered .exit)) ≡ 256 ⌝ }
+// The edges out of n, among the first `len`.
+fn loosen_out(edges: &mut [u8; 512], len: usize, n: u8, out: bool)
+    requires { ⌜ (len ≤ 256) × (n < 32) × (length (now edges) ≡ 512) ⌝ }
+    ensures { λ _. ⌜ ((ends : List ℕ) → stored-edges ends (now (edges .exit)) len ≡ map (loosened n (outs-of out)) (stored-edges ends (now (edges .entry)) len)) ⌝ }
+    ensures { λ _. ⌜ length (now (edges .exit)) ≡ 512 ⌝ }
 {
     if !out {
         return;
     }
     let mut k: usize = 0;
-    while k < edges {
-        let u = unordered[k];
-        unordered[k] = u | (producer[k] == n);
+    while k < len {
+        let u = edges[256 + k];
+        edges[256 + k] = pick_byte(edges[k] == n, 1, u);
         k = k + 1;
     }
 }
 
 // The edges of step n: into slot 0, into the later slots, out. d are those into it.
 pub fn loosen_edges(
-    slot: &[u8; 256],
-    producer: &[u8; 256],
-    unordered: &mut [bool; 256],
-    edges: usize,
+    ends: &[u8; 544],
+    edges: &mut [u8; 512],
+    len: usize,
     n: u8,
     d: InEdges,
     l: Loosened,
 )
-    requires { ⌜ (edges ≤ 256) × (n < 32) × (length (now unordered) ≡ 256) × (d .from ≤ d .to) × (d .to ≤ edges) ⌝ }
-    ensures { λ _. ⌜ ((consumer : List ℕ) → In-run consumer edges n d → stored-edges consumer (now (slot .entry)) (now (producer .entry)) (now (unordered .exit)) edges ≡ map (loosened n l) (stored-edges consumer (now (slot .entry)) (now (producer .entry)) (now (unordered .entry)) edges)) ⌝ }
-    ensures { λ _. ⌜ length (now (unordered .exit)) ≡ 256 ⌝ }
+    requires { ⌜ (len ≤ 256) × (n < 32) × (length (now edges) ≡ 512) × In-run (now ends) len n d ⌝ }
+    ensures { λ _. ⌜ stored-edges (now (ends .entry)) (now (edges .exit)) len ≡ map (loosened n l) (stored-edges (now (ends .entry)) (now (edges .entry)) len) ⌝ }
+    ensures { λ _. ⌜ length (now (edges .exit)) ≡ 512 ⌝ }
 {
-    loosen_in(slot, unordered, d, l);
-    loosen_out(producer, unordered, edges, n, l.out);
+    loosen_in(ends, edges, d, l);
+    loosen_out(edges, len, n, l.out);
 }

@@ -5,6 +5,7 @@ ghost use Rattle.plan.specs.Lists.{if_then_else_};
 ghost use Rattle.plan.specs.FunctionIR.{rust-functions};
 ghost use Rattle.plan.specs.Visit.{rule, arm, ruled, unmaintained-if, first-or-last, is-hstack, select-in, select-out, sort-in, filter-in, filter-out, group-by-in, group-by-out, gather-idxs, gather-out, union-all, map-in, map-out, cache-in, cache-outs, sink-in, allow-deordering-top, refusal-number};
 use crate::joins::join_rule;
+use plan::choice::pick_byte;
 use plan::distinct::UniqueKeepStrategy;
 use plan::function_ir::FunctionIR;
 use plan::ir::IR;
@@ -13,13 +14,6 @@ use plan::rules::Loosened;
 use plan::rules::Observable;
 use plan::rules::Options;
 use plan::rules::Ruled;
-
-// maintain_order = false, where it is so.
-pub fn off_if(loosened: bool, a: u8) -> u8
-    ensures { λ r. ⌜ r ≡ (if loosened then 0 else a) ⌝ }
-{
-    if loosened { 0 } else { a }
-}
 
 // With these options, and these edges loosened: into slot 0, into the later slots, out.
 pub fn ruled(s: Options, in0: bool, later: bool, out: bool) -> Ruled
@@ -42,7 +36,7 @@ fn unmaintained(s: Options, off: bool, in0: bool, later: bool, out: bool) -> Rul
     let kind = s.kind;
     let options = Options {
         kind: kind,
-        a: off_if(off, s.a),
+        a: pick_byte(off, 0, s.a),
         b: s.b,
         c: s.c,
         n2: s.n2,
@@ -129,7 +123,7 @@ fn distinct_rule(s: Options, e: Around, o: Observable) -> Ruled
     let keeps = any_if(distinct_in & needs_order, keep);
     let options = Options {
         kind: kind,
-        a: off_if(distinct_out | distinct_in, s.a),
+        a: pick_byte(distinct_out | distinct_in, 0, s.a),
         b: s.b,
         c: keeps.number(),
         n2: s.n2,

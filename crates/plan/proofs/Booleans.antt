@@ -4,12 +4,19 @@ use mathlib.Core.Logic.{_≢_}
 use Prim.Native.Nat.{ℕ, zero, suc, _+_, _<_}
 use native.Mathlib.Omega.{arith}
 use native.Mathlib.Nat.{not-suc-le-zero}
-use mathlib.Core.Bool.{Bool, true, false, _&&_}
+use mathlib.Core.Bool.{Bool, true, false, _&&_, and-eq-true-iff}
 use mathlib.Core.List.{List, [], _∷_, _++_, List·Memᴰ, List·Memᴰ·head, List·Memᴰ·tail}
 use lib.Dec.{T, eqb, eqb→eq, eqb-refl}
 use lib.ListN.{length, getD}
 use Rattle.plan.specs.Lists.{all?, numbered}
-use Rattle.plan.proofs.ListLaws.{and-left, and-right}
+use Rattle.plan.proofs.ListLaws as passed
+
+-- of a test that is true; ListLaws has them of one that passed
+pub and-left : (a b : Bool) → (a && b) ≡ true → a ≡ true
+and-left a b h = and-eq-true-iff a b .0 h .0
+
+pub and-right : (a b : Bool) → (a && b) ≡ true → b ≡ true
+and-right a b h = and-eq-true-iff a b .0 h .1
 
 pub and-both : (a b : Bool) → T a → T b → T (a && b)
 and-both true b t u = u
@@ -32,21 +39,21 @@ module _ {A : Type 0} (f : A → Bool) where
   unfolding all?
   all-append [] a t k = and-both (f a) true k tt
   all-append (x ∷ l) a t k =
-      and-both (f x) (all? f (l ++ (a ∷ []))) (and-left (f x) (all? f l) t) (all-append l a (and-right (f x) (all? f l) t) k)
+      and-both (f x) (all? f (l ++ (a ∷ []))) (passed.and-left (f x) (all? f l) t) (all-append l a (passed.and-right (f x) (all? f l) t) k)
 
   pub all-at : (l : List A) (d : A) → T (all? f l) → (i : ℕ) → i < length l → T (f (getD l i d))
   unfolding all?
   all-at [] d t i h = absurd (not-suc-le-zero h)
-  all-at (x ∷ l) d t zero h = and-left (f x) (all? f l) t
-  all-at (x ∷ l) d t (suc i) h = all-at l d (and-right (f x) (all? f l) t) i (omega arith)
+  all-at (x ∷ l) d t zero h = passed.and-left (f x) (all? f l) t
+  all-at (x ∷ l) d t (suc i) h = all-at l d (passed.and-right (f x) (all? f l) t) i (omega arith)
 
 -- a test of every numbered entry
 numbered-at : {A : Type 0} (f : ℕ × A → Bool) (k : ℕ) (l : List A) (d : A) → T (all? f (numbered k l)) → (i : ℕ) → i < length l → T (f (k + i, getD l i d))
 unfolding all? numbered
 numbered-at f k [] d t i h = absurd (not-suc-le-zero h)
-numbered-at f k (x ∷ l) d t zero h = subst (λ n. T (f (n, x))) (omega arith) (and-left (f (k, x)) _ t)
+numbered-at f k (x ∷ l) d t zero h = subst (λ n. T (f (n, x))) (omega arith) (passed.and-left (f (k, x)) _ t)
 numbered-at f k (x ∷ l) d t (suc i) h =
-    subst (λ n. T (f (n, getD l i d))) (omega arith) (numbered-at f (suc k) l d (and-right (f (k, x)) _ t) i (omega arith))
+    subst (λ n. T (f (n, getD l i d))) (omega arith) (numbered-at f (suc k) l d (passed.and-right (f (k, x)) _ t) i (omega arith))
 
 pub entry-at : {A : Type 0} (f : ℕ × A → Bool) (l : List A) (d : A) → T (all? f (numbered 0 l)) → (i : ℕ) → i < length l → T (f (i, getD l i d))
 entry-at f l d t i h = subst (λ n. T (f (n, getD l i d))) (omega arith) (numbered-at f 0 l d t i h)

@@ -2,7 +2,7 @@
 use mathlib.Core.Path.{_≡_, refl, ap, ap₂, sym, _∙_, subst}
 use mathlib.Core.Logic.{_⊎_, inl, inr}
 use Prim.Native.Nat.{ℕ, zero, suc, _<_}
-use mathlib.Core.Bool.{Bool, true, false, _&&_, not}
+use mathlib.Core.Bool.{Bool, true, false, _&&_, not, and-assoc}
 use mathlib.Core.List.{List, [], _∷_, _++_, map}
 use lib.Dec.{T, T-not, eqb}
 use lib.ListN.{length}
@@ -57,10 +57,6 @@ module _ {A : Type 0} (right : A → Bool) (k : ℕ) (number : T (not (eqb k 0))
         by false t = absurd t
 
 -- The test of one line -------------------------------------------------------------------------------------------------------
-
-pub and-assoc : (a b c : Bool) → (a && b && c) ≡ (a && (b && c))
-and-assoc true b c = refl
-and-assoc false b c = refl
 
 module _ {A : Type 0} (f : A → Bool) where
   pub all-both : (l m : List A) → all? f (l ++ m) ≡ (all? f l && all? f m)

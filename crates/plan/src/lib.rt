@@ -1,6 +1,7 @@
 // The kinds of a plan's records in the Rust's names, and the methods that the port calls on them.
 pub mod aexpr; // aexpr.rt: AExpr
 pub mod answer; // answer.rt: Answer
+pub mod choice; // choice.rt: a choice between two bytes
 pub mod distinct; // distinct.rt: UniqueKeepStrategy
 pub mod function_flags; // function_flags.rt: FunctionFlags
 pub mod function_ir; // function_ir.rt: FunctionIR

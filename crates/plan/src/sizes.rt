@@ -8,14 +8,20 @@ pub fn size_32(a: &[u8; 32])
     let t = &a[..];
 }
 
-pub fn size_256(a: &[u8; 256])
-    ensures { λ r. ⌜ length (now (a .entry)) ≡ 256 ⌝ }
+pub fn size_288(a: &[u8; 288])
+    ensures { λ r. ⌜ length (now (a .entry)) ≡ 288 ⌝ }
 {
     let t = &a[..];
 }
 
-pub fn size_288(a: &[u8; 288])
-    ensures { λ r. ⌜ length (now (a .entry)) ≡ 288 ⌝ }
+pub fn size_512(a: &[u8; 512])
+    ensures { λ r. ⌜ length (now (a .entry)) ≡ 512 ⌝ }
+{
+    let t = &a[..];
+}
+
+pub fn size_544(a: &[u8; 544])
+    ensures { λ r. ⌜ length (now (a .entry)) ≡ 544 ⌝ }
 {
     let t = &a[..];
 }

@@ -1,6 +1,6 @@
 -- References, as the loops find them.
 use mathlib.Core.Path.{_≡_, refl, sym, ap, _∙_}
-use mathlib.Core.Bool.{Bool, true, false, _&&_, not}
+use mathlib.Core.Bool.{Bool, true, false, _&&_, not, and-assoc}
 use mathlib.Core.List.{List, [], _∷_}
 use Prim.Native.Nat.{ℕ, _+_, _*_, _<_, _≤_}
 use native.Mathlib.Omega.{arith}
@@ -12,7 +12,7 @@ use Rattle.plan.specs.Kinds.{same-ir}
 use Rattle.plan.specs.Lists.{all?, numbered}
 use Rattle.plan.specs.Sheet.{Expr, Step, Sheet, step-at, no-step}
 use Rattle.plan.specs.Faults.{lines, children-earlier, inputs-earlier, exprs-there, references-right}
-use Rattle.plan.proofs.FaultLaws.{over-lines, all-and, and-assoc}
+use Rattle.plan.proofs.FaultLaws.{over-lines, all-and}
 use Rattle.storage.specs.Stored.{stored-expr, stored-step, stored-exprs, stored-steps}
 use Rattle.storage.proofs.Laws.{length-table, table-at}
 use Rattle.reading.specs.Held.{children-of, count-of, both, before-no-sink, sheet}

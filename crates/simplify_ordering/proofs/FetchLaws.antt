@@ -9,13 +9,13 @@ use lib.ListN.{length, take, drop, length-append, length-drop}
 use lib.Seq.{take-all}
 use Rattle.plan.specs.Sheet.{Sheet, Outcome, refused, done, _then_}
 use Rattle.plan.specs.Graph.{graph}
-use Rattle.storage.specs.Stored.{stored-steps}
 use Rattle.plan.specs.Visit.{Run}
 use Rattle.plan.specs.Walks.{walk, begin, down, up, updated, simplify-and-fetch-orderings}
 use Rattle.claims.specs.WellFormed.{WellFormed}
 use Rattle.claims.proofs.Ends.{walks-alone}
 use Rattle.claims.proofs.Visitables.{visitable-down, visitable-up}
 use Rattle.plan.specs.declared.tally.Tally.{Tally}
+use Rattle.storage.specs.declared.edges.GraphSize.{GraphSize}
 use Rattle.claims.specs.Visitable.{All-visitable}
 use Rattle.simplify_ordering.specs.declared.walks.Orderings.{Orderings}
 use Rattle.simplify_ordering.specs.declared.walks.Walked.{Walked}
@@ -101,24 +101,20 @@ module _ (sh : Sheet) (half : List ℕ → List ℕ → Run) (r : Walked) (pushe
           (record { exprs = r′ .exprs; back = pushed′ ++ pushed; removed = g′ .gone ++ g .gone; tally = r′ .tally; is = up-stopped k; is-held = there })
       answer-held held there (ended z e) = subst (Orderings-held held (fetch-stopped sh) after) (sym e) there
 
--- The places stored in the array from `at` on ---------------------------------------------------------------------------------------------
+-- the part of an array from `at` on, as the code lends it
+pub to-the-end : (back : List ℕ) (at : ℕ) → take (length back - at) (drop at back) ≡ drop at back
+to-the-end back at = take-all (length back - at) (drop at back) (omega (arith, length-drop at back))
 
-pub to-the-end : (back : List ℕ) (at : ℕ) → length back ≡ 288 → take (288 - at) (drop at back) ≡ drop at back
-to-the-end back at size = take-all (288 - at) (drop at back) (omega (arith, size, length-drop at back))
-
--- a walk along them that sets out with as many sorts removed
+-- a walk along it that sets out with as many sorts removed
 pub set-out : {ns ns′ : List ℕ} {before after : List ℕ → List ℕ → Run} {w w′ r : Walked} {pushed : List ℕ} → ns ≡ ns′ → w .removed ≡ w′ .removed
     → Walk-gives ns before after w r pushed → Walk-gives ns′ before after w′ r pushed
-set-out {before = before} {after = after} {w = w} {w′ = w′} {r = r} {pushed = pushed} e i g =
+set-out {before = before} {after = after} {w′ = w′} {r = r} {pushed = pushed} e i g =
     subst (λ (x : List ℕ). Walk-gives x before after w′ r pushed) e (record { gone = g .gone; count = omega (arith, i, g .count); is = g .is; refusal = g .refusal; stop = g .stop })
 
 -- The run as the walks set out --------------------------------------------------------------------------------------------------------------
 
-module _ {recs line : List ℕ} {off : List Bool} {m : ℕ} {steps : List ℕ} {n : ℕ} {consumer slot in-edges producer : List ℕ} {unordered : List Bool} {edges : ℕ} {list : List ℕ} {places : ℕ}
-    (ask : Fetch-asks recs line off m steps n consumer slot in-edges producer unordered edges list places) where
-  pub begins : run-of recs line off m steps n consumer slot producer unordered edges [] [] (record { visits = 0; looks = 0 }) ≡ begin (sheet-of recs line off m steps n)
-  unfolding begin
-  begins = rw (ask .edges-are)
-
-  pub all-places : take (places - 0) (drop 0 list) ≡ graph (stored-steps steps n) .0
-  all-places = let e : places - 0 ≡ places = omega arith in ap (λ (k : ℕ). take k list) e ∙ ask .places-are
+pub begins : {recs line : List ℕ} {off : List Bool} {m : ℕ} {steps ends edges : List ℕ} {size : GraphSize} {list : List ℕ}
+    → Fetch-asks recs line off m steps ends edges size list
+    → run-of recs line off m steps ends edges size [] [] (record { visits = 0; looks = 0 }) ≡ begin (sheet-of recs line off m steps (size .steps))
+unfolding begin
+begins ask = rw (ask .edges-are)

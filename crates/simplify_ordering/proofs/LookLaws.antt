@@ -26,7 +26,7 @@ use Rattle.plan.specs.declared.tally.Tally.{Tally}
 use Rattle.expr.specs.Contract.{looked-of}
 use Rattle.expr.specs.declared.eos.Eos.{Eos}
 use Rattle.expr.specs.Projected.{no-entries, Started, ListAsks, ListGives}
-use Rattle.expr.proofs.Records.{and-left, and-right}
+use Rattle.plan.proofs.Booleans.{and-left, and-right}
 use Rattle.expr.specs.State.{State, state, eos-of, Falls, Formed}
 use Rattle.simplify_ordering.specs.declared.looks.VisitLooks.{VisitLooks}
 use Rattle.storage.specs.declared.steps.Entries.{Entries}

@@ -1,5 +1,5 @@
 -- A visit as the definition has it, from what the code of its stages gives.
-use mathlib.Core.Path.{_≡_, refl, ap, _∙_}
+use mathlib.Core.Path.{_≡_, ap, _∙_}
 use mathlib.Core.Logic.{_≢_}
 use Prim.Native.Nat.{ℕ, _+_, _<_, _^_}
 use native.Mathlib.Omega.{arith}
@@ -25,8 +25,10 @@ use Rattle.plan.specs.Tally.{visit-more}
 use Rattle.plan.specs.declared.rules.Options.{Options}
 use Rattle.plan.specs.declared.rules.Around.{Around}
 use Rattle.plan.specs.declared.rules.Observable.{Observable}
+use Rattle.storage.specs.declared.edges.GraphSize.{GraphSize}
 use Rattle.storage.specs.Edges.{stored-edge, stored-edges}
 use Rattle.node_rules.specs.Held.{Unlinked, Unlinkable, Edges-held}
+use Rattle.simplify_ordering.specs.declared.visit.Found.{Found}
 use Rattle.simplify_ordering.specs.Looks.{Listed}
 use Rattle.simplify_ordering.specs.Run.{run-of, Run-held, Ruled-by, stopped-at, Settle-asks}
 use Rattle.storage.proofs.StepLaws.{its-n1}
@@ -43,22 +45,28 @@ state es ps ds back removed tally =
 
 -- A visit that removes nothing ---------------------------------------------------------------------------------------------------------
 
-module _ (es : List Expr) (ps : List Step) (ds : List Edge) (n : ℕ) (tally : Tally) (here : n < length ps) where
+-- v is the step as the visit finds it
+module _ (es : List Expr) (ps : List Step) (ds : List Edge) (v : Found) (tally : Tally) (here : v .node < length ps)
+    (options-are : v .options ≡ options-of (step-at ps (v .node))) (around-is : v .around ≡ around (v .node) ds) where
+  abbrev n : ℕ
+  n = v .node
+
   abbrev l : Looked
   l = looks-of (step-at ps n) (around n ds) es tally
 
-  its-edges : l .around ≡ around n ds
+  its-edges : v .around ≡ l .around
   unfolding looks-of
-  its-edges = refl
+  its-edges = around-is
+
+  -- the looks leave the options
+  its-options : v .options ≡ options-of (l .step)
+  unfolding looks-of
+  its-options = options-are
 
   -- ps₁ are the steps after the looks
   module _ (ps₁ : List Step) (steps-are : ps₁ ≡ set ps n (l .step)) where
     step-now : step-at ps₁ n ≡ l .step
     step-now = ap (λ (x : List Step). step-at x n) steps-are ∙ getD-set-same ps n (l .step) no-step here
-
-    pub options-now : options-of (step-at ps n) ≡ options-of (step-at ps₁ n)
-    unfolding looks-of
-    options-now = rw step-now
 
     -- what the looks leave
     pub stops : (es₂ : List Expr) (tally₂ : Tally) → es₂ ≡ l .end .expr-arena → tally₂ ≡ l .end .tally → (back removed : List ℕ)
@@ -67,26 +75,26 @@ module _ (es : List Expr) (ps : List Step) (ds : List Edge) (n : ℕ) (tally : T
     stops es₂ tally₂ arena-is tally-is back removed = rw (steps-are, arena-is, tally-is)
 
     -- o is what was observed, k the number that the code gave
-    module _ (o : Observable) (seen : o ≡ l .observable) (k : ℕ) (number : k ≡ refusal-number (options-of (step-at ps₁ n)) o) (back removed : List ℕ) where
+    module _ (o : Observable) (seen : o ≡ l .observable) (k : ℕ) (number : k ≡ refusal-number (v .options) o) (back removed : List ℕ) where
       number-is : k ≡ refusal-in n (state es ps ds back removed tally)
       unfolding looked-in
-      number-is = number ∙ rw (step-now, seen)
+      number-is = number ∙ rw (its-options, seen)
 
       pub settle-refused : k ≢ 0 → settle n (state es ps ds back removed tally) ≡ refused k
       unfolding settle
       settle-refused h = rw (← number-is, ne-eqb k 0 h)
 
       pub settle-done : k ≡ 0 → (ps₂ : List Step) (ds₂ : List Edge) (es₂ : List Expr) (tally₂ : Tally) → es₂ ≡ l .end .expr-arena → tally₂ ≡ visit-more (l .end .tally)
-          → Ruled-by n (around n ds) o ps₁ ds ps₂ ds₂
+          → Ruled-by v o ps₁ ds ps₂ ds₂
           → settle n (state es ps ds back removed tally) ≡ done (state es₂ ps₂ ds₂ (n ∷ back) removed tally₂)
       unfolding settle settled-by ruling-of looked-in
       settle-done h ps₂ ds₂ es₂ tally₂ arena-is tally-is ruled =
-          let then : Step → Step = λ s. with-options (rule rust-functions (options-of s) (around n ds) o .options) s in
+          let then : Step → Step = with-options (rule rust-functions (v .options) (v .around) o .options) in
           let steps-then : ps₂ ≡ set ps n (with-options (rule rust-functions (options-of (l .step)) (l .around) (l .observable) .options) (l .step)) =
           ruled .steps ∙ ap (λ (x : List Step). set x n (then (step-at ps₁ n))) steps-are
-          ∙ set-set ps n (l .step) (then (step-at ps₁ n)) ∙ rw (step-now, seen, its-edges) in
+          ∙ set-set ps n (l .step) (then (step-at ps₁ n)) ∙ rw (step-now, seen, its-options, its-edges) in
           let edges-then : ds₂ ≡ map (Visit.loosened n (rule rust-functions (options-of (l .step)) (l .around) (l .observable) .loosened)) ds =
-          ruled .edges ∙ rw (step-now, seen, its-edges) in
+          ruled .edges ∙ rw (seen, its-options, its-edges) in
           rw (← number-is, eq-eqb k 0 h, steps-then, edges-then, arena-is, tally-is)
 
 -- what the code's test reads, of its own records
@@ -143,49 +151,47 @@ settle-asked n r v =
       visits = v .visits;
     }
 
-module _ (recs line : List ℕ) (off : List Bool) (m : ℕ) (steps : List ℕ) (n : ℕ) (consumer slot producer : List ℕ) (unordered : List Bool) (edges : ℕ) (tally : Tally)
-    (held : Run-held recs line off m steps n producer unordered edges) (i : ℕ)
-    (v : Visitable i (run-of recs line off m steps n consumer slot producer unordered edges [] [] tally)) where
+module _ (recs line : List ℕ) (off : List Bool) (m : ℕ) (steps ends edges : List ℕ) (size : GraphSize) (tally : Tally)
+    (held : Run-held recs line off m steps edges size) (i : ℕ) (v : Visitable i (run-of recs line off m steps ends edges size [] [] tally)) where
   abbrev ds : List Edge
-  ds = stored-edges consumer slot producer unordered edges
+  ds = stored-edges ends edges (size .edges)
 
-  pub here-is : i < n
-  here-is = omega (arith, v .step, length-steps steps n)
+  pub here-is : i < size .steps
+  here-is = omega (arith, v .step, length-steps steps (size .steps))
 
-  edge-is : (k : ℕ) → k < edges → getD ds k no-edge ≡ stored-edge consumer slot producer unordered k
+  edge-is : (k : ℕ) → k < size .edges → getD ds k no-edge ≡ stored-edge ends edges k
   unfolding stored-edges
-  edge-is k h = table-at (stored-edge consumer slot producer unordered) edges k no-edge h
+  edge-is k h = table-at (stored-edge ends edges) (size .edges) k no-edge h
 
-  number-there : (k : ℕ) → k < edges → k < length ds
+  number-there : (k : ℕ) → k < size .edges → k < length ds
   unfolding stored-edges
-  number-there k h = omega (arith, length-table (stored-edge consumer slot producer unordered) 0 edges)
+  number-there k h = omega (arith, length-table (stored-edge ends edges) 0 (size .edges))
 
-  consumer-there : (k : ℕ) → k < edges → getD consumer k 0 < n
+  consumer-there : (k : ℕ) → k < size .edges → getD ends k 0 < size .steps
   unfolding stored-edge
   consumer-there k h =
-      omega (arith, v .consumers k (number-there k h), ap (λ (d : Edge). d .consumer) (edge-is k h), length-steps steps n)
+      omega (arith, v .consumers k (number-there k h), ap (λ (d : Edge). d .consumer) (edge-is k h), length-steps steps (size .steps))
 
-  pub edges-held : Edges-held steps n consumer slot producer unordered edges
+  pub edges-held : Edges-held steps size ends edges
   unfolding stored-edge
   edges-held =
       record {
         few = held .few;
-        producers = held .producers;
-        marks = held .marks;
+        bytes = held .bytes;
         there = consumer-there;
         slots =
             λ k h.
             omega (
               arith,
               rw (edge-is k h) at (v .slots k (number-there k h)),
-              its-n1 steps n (getD consumer k 0) (held .steps-held) (consumer-there k h),
+              its-n1 steps (size .steps) (getD ends k 0) (held .steps-held) (consumer-there k h),
             );
       }
 
-  pub unlinkable : T (goes i (run-of recs line off m steps n consumer slot producer unordered edges [] [] tally)) → Unlinkable steps n i ds
+  pub unlinkable : T (goes i (run-of recs line off m steps ends edges size [] [] tally)) → Unlinkable steps (size .steps) i ds
   unlinkable t =
       record {
         step = here-is;
-        reads = omega (arith, v .input t, its-n1 steps n i (held .steps-held) here-is);
-        unordered = true-of (Visit.out-edge i ds .unordered) (goes-sort i (run-of recs line off m steps n consumer slot producer unordered edges [] [] tally) t .1);
+        reads = omega (arith, v .input t, its-n1 steps (size .steps) i (held .steps-held) here-is);
+        unordered = true-of (Visit.out-edge i ds .unordered) (goes-sort i (run-of recs line off m steps ends edges size [] [] tally) t .1);
       }

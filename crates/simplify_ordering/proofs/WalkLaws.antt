@@ -6,7 +6,7 @@ use native.Mathlib.Omega.{arith}
 use mathlib.Core.Bool.{Bool, true, false}
 use mathlib.Core.List.{List, [], _∷_, _++_, List·Memᴰ, List·Memᴰ·head, List·Memᴰ·tail}
 use lib.Dec.{eqb}
-use lib.ListN.{length, getD, set, take, drop, length-set, drop-of-length-le}
+use lib.ListN.{length, getD, set, drop, length-set, drop-of-length-le}
 use lib.Seq.{drop-cons, getD-set-same, drop-set-lt}
 use Rattle.plan.specs.Lists.{if_then_else_}
 use Rattle.plan.specs.Sheet.{Outcome, refused, done, _then_}
@@ -16,7 +16,7 @@ use Rattle.plan.proofs.Settling as Settling
 use Rattle.plan.specs.Walks.{walk, trace, then-all, trace-by, walk-by}
 use Rattle.claims.specs.Visitable.{Visitable, All-visitable}
 use Rattle.simplify_ordering.specs.declared.walks.Walked.{Walked}
-use Rattle.simplify_ordering.specs.Walks.{Placed, settled, removed, refused-at, Walk-asks, or-stopped, walk-stopped, Walk-gives}
+use Rattle.simplify_ordering.specs.Walks.{Has-room, Placed, settled, removed, refused-at, Walk-asks, or-stopped, walk-stopped, Sets-out, Goes-back, Walk-gives}
 use Rattle.simplify_ordering.specs.Run.{stopped-at}
 
 -- A refusal's number is not 0 ---------------------------------------------------------------------------------------------------------
@@ -220,20 +220,49 @@ walking-more ns before w after r n rest after′ r′ back back′ size few g z 
       omega (arith, same),
     )
 
--- The places that are left, in the list's array ----------------------------------------------------------------------------------------------
+-- Along a list, of which the places from the i-th on are left ------------------------------------------------------------------------------
 
-pub rest-next : (list : List ℕ) (i to : ℕ) → i < to → to ≤ length list
-    → take (to - i) (drop i list) ≡ getD list i 0 ∷ take (to - (i + 1)) (drop (i + 1) list)
-rest-next list i to h few =
-    let e : i + 1 ≡ suc i = omega arith in
-    let f : to - i ≡ suc (to - (i + 1)) = omega arith in
-    rw (f, drop-cons list i 0 (omega arith), e)
+-- how far it has come: what is stored fits, and each place stored or removed one at most
+pub record Come (ns back : List ℕ) (i : ℕ) (w r : Walked) : Type 0 where
+  pub order : i ≤ length ns
+  pub room : length back ≡ 288
+  pub few : r .at ≤ 288
+  pub stored : 288 ≤ r .at + i
+  pub counted : r .removed ≤ w .removed + i
 
-pub rest-none : (list : List ℕ) (i to : ℕ) → to ≤ i → take (to - i) (drop i list) ≡ []
-rest-none list i to h = let e : to - i ≡ 0 = omega arith in rw e
+module _ (ns : List ℕ) (before : List ℕ → List ℕ → Run) (w : Walked) where
+  -- as a walk sets out, nothing is stored
+  pub walking-begins : (back : List ℕ) → Sets-out ns back w → Walk-asks ns before → Walking ns ns before before w w (drop (w .at) back) × Come ns back 0 w w
+  walking-begins back s a = (
+    subst (Walking ns ns before before w w) (sym (drop-of-length-le back {i = w .at} (omega (arith, s .room, s .none-stored)))) (walking-none ns before w a (s .going)),
+    record { order = omega arith; room = s .room; few = omega (arith, s .none-stored); stored = omega (arith, s .none-stored); counted = omega arith },
+  )
 
--- As a walk sets out, nothing is stored
-pub walking-begins : (ns : List ℕ) (before : List ℕ → List ℕ → Run) (w : Walked) (back : List ℕ) → length back ≡ 288 → w .at ≡ 288
-    → Walk-asks ns before → w .refused ≡ 0 → Walking ns ns before before w w (drop (w .at) back)
-walking-begins ns before w back size at-is a z =
-    subst (Walking ns ns before before w w) (sym (drop-of-length-le back {i = w .at} (omega (arith, size, at-is)))) (walking-none ns before w a z)
+  module _ (after : List ℕ → List ℕ → Run) (r : Walked) (back : List ℕ) (i : ℕ) (h : i < length ns)
+      (g : Walking ns (drop i ns) before after w r (drop (r .at) back)) (o : Come ns back i w r) (z : r .refused ≡ 0) where
+    at-place : Walking ns (getD ns i 0 ∷ drop (i + 1) ns) before after w r (drop (r .at) back)
+    at-place =
+        let e : i + 1 ≡ suc i = omega arith in
+        subst (λ (x : List ℕ). Walking ns x before after w r (drop (r .at) back)) (drop-cons ns i 0 h ∙ ap (λ (k : ℕ). getD ns i 0 ∷ drop k ns) (sym e)) g
+
+    -- the next visit, and what it leaves
+    pub next-visitable : (b d : List ℕ) × Visitable (getD ns i 0) (after b d)
+    next-visitable = (_, _, place-visitable ns before w after r (drop (r .at) back) (getD ns i 0) (drop (i + 1) ns) at-place z)
+
+    pub has-room : length ns ≤ 288 → w .removed ≤ 288 → Has-room back r
+    has-room few most = record { place = omega (arith, o .stored); few = o .few; room = o .room; count = omega (arith, o .counted) }
+
+    pub walking-next : (after′ : List ℕ → List ℕ → Run) (r′ : Walked) (back′ : List ℕ) → Placed (getD ns i 0) after after′ r back r′ back′
+        → Walking ns (drop (i + 1) ns) before after′ w r′ (drop (r′ .at) back′) × Come ns back′ (i + 1) w r′
+    walking-next after′ r′ back′ p =
+        let (g′, room, down, one, more) = walking-more ns before w after r (getD ns i 0) (drop (i + 1) ns) after′ r′ back back′ (o .room) (o .few) at-place z p in
+        (g′, record { order = omega arith; room = room; few = omega (arith, down, o .few); stored = omega (arith, one, o .stored); counted = omega (arith, more, o .counted) })
+
+  pub walked-all : (after : List ℕ → List ℕ → Run) (r : Walked) (back : List ℕ) (i : ℕ) → length ns ≤ i
+      → Walking ns (drop i ns) before after w r (drop (r .at) back) → Walk-gives ns before after w r (drop (r .at) back)
+  walked-all after r back i h g =
+      walking-ends ns before w after r (drop (r .at) back)
+      (subst (λ (x : List ℕ). Walking ns x before after w r (drop (r .at) back)) (drop-of-length-le ns {i = i} h) g)
+
+pub goes-back : (ns back : List ℕ) (i : ℕ) (w r : Walked) → Come ns back i w r → Goes-back back (w .removed + length ns) r
+goes-back ns back i w r o = record { room = o .room; few = o .few; few-removed = omega (arith, o .counted, o .order) }

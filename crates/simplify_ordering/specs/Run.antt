@@ -4,45 +4,62 @@ use Prim.Native.Nat.{ℕ, _+_, _≤_, _<_, _^_}
 use mathlib.Core.Bool.{Bool}
 use mathlib.Core.List.{List, _∷_, map, List·Memᴰ}
 use lib.ListN.{length, set}
-use Rattle.plan.specs.declared.rules.Around.{Around}
 use Rattle.plan.specs.declared.rules.Observable.{Observable}
 use Rattle.plan.specs.FunctionIR.{rust-functions}
 use Rattle.plan.specs.Sheet.{Step, Outcome, refused, done, step-at}
 use Rattle.plan.specs.Graph.{Edge}
 use Rattle.storage.specs.Stored.{arena-of, stored-steps, Steps-held}
-use Rattle.plan.specs.Visit.{Run, options-of, with-options, rule, loosened, looked-in}
+use Rattle.plan.specs.Visit.{Run, around, options-of, with-options, rule, loosened, looked-in}
 use Rattle.plan.specs.declared.tally.Tally.{Tally}
+use Rattle.simplify_ordering.specs.declared.visit.Found.{Found}
 use Rattle.simplify_ordering.specs.declared.visit.Visited.{Visited}
 use Rattle.simplify_ordering.specs.Arena.{Arena-held}
+use Rattle.storage.specs.declared.edges.GraphSize.{GraphSize}
 use Rattle.storage.specs.Edges.{stored-edges}
+use Rattle.node_rules.specs.Held.{In-run}
 use Rattle.simplify_ordering.specs.Looks.{Listed}
 
--- recs, line, off: the arena's first m lines. steps: n of them. consumer, slot, producer, unordered: so many edges. The places gone
--- back along and the sorts removed are lists of the definition alone: a visit does not read them
-abbrev pub run-of : List ℕ → List ℕ → List Bool → ℕ → List ℕ → ℕ → List ℕ → List ℕ → List ℕ → List Bool → ℕ → List ℕ → List ℕ → Tally → Run
-run-of recs line off m steps n consumer slot producer unordered edges back removed tally =
+-- recs, line, off: the arena's first m lines. steps, ends, edges: a graph of that size. The places gone back along and the sorts removed
+-- are lists of the definition alone: a visit does not read them
+abbrev pub run-of : (recs line : List ℕ) → List Bool → ℕ → (steps ends edges : List ℕ) → GraphSize → (back removed : List ℕ) → Tally → Run
+run-of recs line off m steps ends edges size back removed tally =
     record {
       arena = arena-of recs line off m;
-      steps = stored-steps steps n;
-      edges = stored-edges consumer slot producer unordered edges;
+      steps = stored-steps steps (size .steps);
+      edges = stored-edges ends edges (size .edges);
       back = back;
       removed = removed;
       tally = tally;
     }
 
-pub record Run-held (recs line : List ℕ) (off : List Bool) (m : ℕ) (steps : List ℕ) (n : ℕ) (producer : List ℕ) (unordered : List Bool) (edges : ℕ) : Type 0 where
+pub record Run-held (recs line : List ℕ) (off : List Bool) (m : ℕ) (steps edges : List ℕ) (size : GraphSize) : Type 0 where
   pub arena : Arena-held recs line off m
-  pub steps-held : Steps-held steps n
-  pub few : edges ≤ 256
-  pub producers : length producer ≡ 256
-  pub marks : length unordered ≡ 256
+  pub steps-held : Steps-held steps (size .steps)
+  pub few : size .edges ≤ 256
+  pub bytes : length edges ≡ 512
+
+-- A step as a visit finds it ---------------------------------------------------------------------------------------------------------
+
+pub record Finds (steps ends edges : List ℕ) (size : GraphSize) (v : Found) : Type 0 where
+  pub there : v .node < size .steps
+  pub options-are : v .options ≡ options-of (step-at (stored-steps steps (size .steps)) (v .node))
+  pub run : In-run ends (size .edges) (v .node) (v .ins)
+  pub around-is : v .around ≡ around (v .node) (stored-edges ends edges (size .edges))
 
 -- A step settled by its rule, its looks made ---------------------------------------------------------------------------------------
 
+-- what following its rule leans on
+pub record Rule-asks (steps ends edges : List ℕ) (size : GraphSize) (v : Found) : Type 0 where
+  pub steps-held : Steps-held steps (size .steps)
+  pub there : v .node < size .steps
+  pub few : size .edges ≤ 256
+  pub bytes : length edges ≡ 512
+  pub run : In-run ends (size .edges) (v .node) (v .ins)
+
 -- ps and ds are the steps and the edges before, ps′ and ds′ those after
-pub record Ruled-by (n : ℕ) (e : Around) (o : Observable) (ps : List Step) (ds : List Edge) (ps′ : List Step) (ds′ : List Edge) : Type 0 where
-  pub steps : ps′ ≡ set ps n (with-options (rule rust-functions (options-of (step-at ps n)) e o .options) (step-at ps n))
-  pub edges : ds′ ≡ map (loosened n (rule rust-functions (options-of (step-at ps n)) e o .loosened)) ds
+pub record Ruled-by (v : Found) (o : Observable) (ps : List Step) (ds : List Edge) (ps′ : List Step) (ds′ : List Edge) : Type 0 where
+  pub steps : ps′ ≡ set ps (v .node) (with-options (rule rust-functions (v .options) (v .around) o .options) (step-at ps (v .node)))
+  pub edges : ds′ ≡ map (loosened (v .node) (rule rust-functions (v .options) (v .around) o .loosened)) ds
 
 -- The answer of a visit ---------------------------------------------------------------------------------------------------------------
 

@@ -1,9 +1,9 @@
 -- What the walks ask and give.
 use mathlib.Core.Path.{_≡_}
-use Prim.Native.Nat.{ℕ, _+_, _≤_}
+use Prim.Native.Nat.{ℕ, _+_, _≤_, _<_, _^_}
 use mathlib.Core.Bool.{Bool}
 use mathlib.Core.List.{List, [], _∷_, _++_}
-use lib.ListN.{length, set, take}
+use lib.ListN.{length, set}
 use Rattle.plan.specs.Sheet.{Sheet, Outcome, refused, done}
 use Rattle.plan.specs.Graph.{graph}
 use Rattle.storage.specs.Stored.{arena-of, stored-steps}
@@ -15,10 +15,18 @@ use Rattle.claims.specs.Visitable.{All-visitable}
 use Rattle.simplify_ordering.specs.declared.walks.Fetched.{Fetched}
 use Rattle.simplify_ordering.specs.declared.walks.Orderings.{Orderings}
 use Rattle.simplify_ordering.specs.declared.walks.Walked.{Walked}
+use Rattle.storage.specs.declared.edges.GraphSize.{GraphSize}
 use Rattle.storage.specs.Edges.{stored-edges, In-rows}
 use Rattle.simplify_ordering.specs.Run.{Run-held, stopped-at}
 
 -- One place ----------------------------------------------------------------------------------------------------------------------------
+
+-- a place more can be stored, and a sort more counted
+pub record Has-room (back : List ℕ) (w : Walked) : Type 0 where
+  pub place : 1 ≤ w .at
+  pub few : w .at ≤ 288
+  pub room : length back ≡ 288
+  pub count : w .removed + 1 < 2 ^ 64
 
 -- What comes of the visit to n. `before` and `after` give the run from the two lists that the code does not hold; w and back are the
 -- walk and its array before, r and back′ after
@@ -47,6 +55,20 @@ unfoldable pub walk-stopped : List ℕ → Run → Run
 walk-stopped [] r = r
 walk-stopped (n ∷ ns) r = or-stopped n r (simplify-ir-node-orders n r) (λ r′. walk-stopped ns r′)
 
+-- as it sets out, nothing is stored in its array, which has room for all of its places
+pub record Sets-out (ns back : List ℕ) (w : Walked) : Type 0 where
+  pub few : length ns ≤ 288
+  pub room : length back ≡ 288
+  pub going : w .refused ≡ 0
+  pub none-stored : w .at ≡ 288
+  pub few-removed : w .removed ≤ 288
+
+-- as it ends, the places to go back along stand in its array from r .at on, and at most so many sorts are removed
+pub record Goes-back (back : List ℕ) (most : ℕ) (r : Walked) : Type 0 where
+  pub room : length back ≡ 288
+  pub few : r .at ≤ 288
+  pub few-removed : r .removed ≤ most
+
 -- w is as it sets out, r as it ends: it was refused, or it came to its end. `pushed` are the places that were gone back along, `gone`
 -- the sorts that were removed
 pub record Walk-gives (ns : List ℕ) (before after : List ℕ → List ℕ → Run) (w r : Walked) (pushed : List ℕ) : Type 0 where
@@ -62,13 +84,13 @@ abbrev pub sheet-of : List ℕ → List ℕ → List Bool → ℕ → List ℕ �
 sheet-of recs line off m steps n = record { exprs = arena-of recs line off m; steps = stored-steps steps n }
 
 -- a well-formed sheet, its visiting list and its edges as they are made
-pub record Fetch-asks (recs line : List ℕ) (off : List Bool) (m : ℕ) (steps : List ℕ) (n : ℕ) (consumer slot in-edges producer : List ℕ) (unordered : List Bool) (edges : ℕ) (list : List ℕ) (places : ℕ) : Type 0 where
-  pub held : Run-held recs line off m steps n producer unordered edges
-  pub formed : WellFormed (sheet-of recs line off m steps n)
-  pub few : places ≤ 288
-  pub places-are : take places list ≡ graph (stored-steps steps n) .0
-  pub edges-are : stored-edges consumer slot producer unordered edges ≡ graph (stored-steps steps n) .1
-  pub rows : In-rows consumer in-edges edges n
+pub record Fetch-asks (recs line : List ℕ) (off : List Bool) (m : ℕ) (steps ends edges : List ℕ) (size : GraphSize) (list : List ℕ) : Type 0 where
+  pub held : Run-held recs line off m steps edges size
+  pub formed : WellFormed (sheet-of recs line off m steps (size .steps))
+  pub few : length list ≤ 288
+  pub places-are : list ≡ graph (stored-steps steps (size .steps)) .0
+  pub edges-are : stored-edges ends edges (size .edges) ≡ graph (stored-steps steps (size .steps)) .1
+  pub rows : In-rows ends (size .edges) (size .steps)
 
 -- the run that both walks leave where one of them is refused: from the outcome of the downward walk
 abbrev pub stopped-by : Sheet → Outcome Run → Run

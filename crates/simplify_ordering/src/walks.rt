@@ -1,19 +1,19 @@
 // The downward and the upward walk: simplify_and_fetch_orderings.
 ghost use mathlib.Core.Path.{_≡_};
 ghost use mathlib.Core.List.{List, []};
-ghost use Prim.Native.Nat.{ℕ, _+_, _-_, _≤_, _<_};
-ghost use lib.ListN.{length, take, drop};
+ghost use Prim.Native.Nat.{ℕ, _+_};
+ghost use lib.ListN.{length, drop};
 ghost use Rattle.claims.specs.Visitable.{Visitable};
 ghost use Rattle.plan.specs.Visit.{Run, simplify-ir-node-orders};
 ghost use Rattle.storage.specs.Edges.{In-rows};
 ghost use Rattle.plan.specs.Walks.{simplify-and-fetch-orderings};
 ghost use Rattle.simplify_ordering.specs.Run.{run-of, Run-held, Comes};
-ghost use Rattle.simplify_ordering.specs.Walks.{Placed, Walk-asks, Walk-gives, sheet-of, Fetch-asks, fetch-stopped, Down-gives, Answers, Orderings-are, Orderings-held};
+ghost use Rattle.simplify_ordering.specs.Walks.{Has-room, Placed, Walk-asks, Sets-out, Goes-back, Walk-gives, sheet-of, Fetch-asks, fetch-stopped, Down-gives, Answers, Orderings-are, Orderings-held};
 use crate::visit::Visit;
 use crate::visit::Visited;
 use crate::visit::simplify_ir_node_orders;
-use plan::sizes::size_288;
 use plan::tally::Tally;
+use storage::edges::GraphSize;
 
 // How far a walk has come.
 pub struct Walked {
@@ -41,7 +41,7 @@ pub enum Orderings {
 
 // What the visit v to n leaves of a walk: a settled step is stored as a place to go back along, a removed sort is counted.
 fn place(back: &mut [u8; 288], n: u8, w: Walked, v: Visit) -> Walked
-    requires { ⌜ (1 ≤ w .at) × (w .at ≤ 288) × (length (now back) ≡ 288) × (w .removed < 18446744073709551615) ⌝ }
+    requires { ⌜ Has-room (now back) w ⌝ }
     ensures { λ r. ⌜ ((before after : List ℕ → List ℕ → Run) → Comes simplify-ir-node-orders n before after (v .visited) → Placed n before after w (now (back .entry)) r (now (back .exit))) ⌝ }
     ensures { λ r. ⌜ (r .exprs ≡ v .exprs) × (r .tally ≡ v .tally) ⌝ }
 {
@@ -82,22 +82,18 @@ fn visit_place(
     line: &mut [u8; 128],
     off: &mut [bool; 128],
     steps: &mut [u8; 1024],
-    n_steps: usize,
-    consumer: &[u8; 256],
-    slot: &[u8; 256],
-    in_edges: &[u8; 32],
-    producer: &mut [u8; 256],
-    unordered: &mut [bool; 256],
-    edges: usize,
+    ends: &[u8; 544],
+    edges: &mut [u8; 512],
+    size: GraphSize,
     back: &mut [u8; 288],
     n: u8,
     w: Walked,
 ) -> Walked
-    requires { ⌜ Run-held (now recs) (now line) (now off) (w .exprs) (now steps) «n_steps» (now producer) (now unordered) edges ⌝ }
-    requires { ⌜ Visitable n (run-of (now recs) (now line) (now off) (w .exprs) (now steps) «n_steps» (now consumer) (now slot) (now producer) (now unordered) edges [] [] (w .tally)) ⌝ }
-    requires { ⌜ (1 ≤ w .at) × (w .at ≤ 288) × (length (now back) ≡ 288) × (w .removed < 18446744073709551615) × In-rows (now consumer) (now in_edges) edges «n_steps» ⌝ }
-    ensures { λ r. ⌜ Placed n (λ b d. run-of (now (recs .entry)) (now (line .entry)) (now (off .entry)) (w .exprs) (now (steps .entry)) «n_steps» (now (consumer .entry)) (now (slot .entry)) (now (producer .entry)) (now (unordered .entry)) edges b d (w .tally)) (λ b d. run-of (now (recs .exit)) (now (line .exit)) (now (off .exit)) (r .exprs) (now (steps .exit)) «n_steps» (now (consumer .entry)) (now (slot .entry)) (now (producer .exit)) (now (unordered .exit)) edges b d (r .tally)) w (now (back .entry)) r (now (back .exit)) ⌝ }
-    ensures { λ r. ⌜ Run-held (now (recs .exit)) (now (line .exit)) (now (off .exit)) (r .exprs) (now (steps .exit)) «n_steps» (now (producer .exit)) (now (unordered .exit)) edges ⌝ }
+    requires { ⌜ Run-held (now recs) (now line) (now off) (w .exprs) (now steps) (now edges) size × In-rows (now ends) (size .edges) (size .steps) ⌝ }
+    requires { ⌜ Visitable n (run-of (now recs) (now line) (now off) (w .exprs) (now steps) (now ends) (now edges) size [] [] (w .tally)) ⌝ }
+    requires { ⌜ Has-room (now back) w ⌝ }
+    ensures { λ r. ⌜ Placed n (λ b d. run-of (now (recs .entry)) (now (line .entry)) (now (off .entry)) (w .exprs) (now (steps .entry)) (now (ends .entry)) (now (edges .entry)) size b d (w .tally)) (λ b d. run-of (now (recs .exit)) (now (line .exit)) (now (off .exit)) (r .exprs) (now (steps .exit)) (now (ends .entry)) (now (edges .exit)) size b d (r .tally)) w (now (back .entry)) r (now (back .exit)) ⌝ }
+    ensures { λ r. ⌜ Run-held (now (recs .exit)) (now (line .exit)) (now (off .exit)) (r .exprs) (now (steps .exit)) (now (edges .exit)) size ⌝ }
 {
     let v = simplify_ir_node_orders(
         recs,
@@ -105,67 +101,41 @@ fn visit_place(
         off,
         w.exprs,
         steps,
-        n_steps,
-        consumer,
-        slot,
-        in_edges,
-        producer,
-        unordered,
+        ends,
         edges,
+        size,
         n,
         w.tally,
     );
     place(back, n, w, v)
 }
 
-// Along the places of `list` from `from` up to `to`, until one is refused.
+// Along the places of `list`, until one is refused.
 fn walk(
     recs: &mut [u8; 2048],
     line: &mut [u8; 128],
     off: &mut [bool; 128],
     steps: &mut [u8; 1024],
-    n_steps: usize,
-    consumer: &[u8; 256],
-    slot: &[u8; 256],
-    in_edges: &[u8; 32],
-    producer: &mut [u8; 256],
-    unordered: &mut [bool; 256],
-    edges: usize,
-    list: &[u8; 288],
-    from: usize,
-    to: usize,
+    ends: &[u8; 544],
+    edges: &mut [u8; 512],
+    size: GraphSize,
+    list: &[u8],
     back: &mut [u8; 288],
     w: Walked,
 ) -> Walked
-    requires { ⌜ Run-held (now recs) (now line) (now off) (w .exprs) (now steps) «n_steps» (now producer) (now unordered) edges ⌝ }
-    requires { ⌜ Walk-asks (take (to - from) (drop from (now list))) (λ b d. run-of (now recs) (now line) (now off) (w .exprs) (now steps) «n_steps» (now consumer) (now slot) (now producer) (now unordered) edges b d (w .tally)) ⌝ }
-    requires { ⌜ (from ≤ to) × (to ≤ 288) × (length (now list) ≡ 288) × (length (now back) ≡ 288) × (w .refused ≡ 0) × (w .at ≡ 288) × (w .removed ≤ 288) × In-rows (now consumer) (now in_edges) edges «n_steps» ⌝ }
-    ensures { λ r. ⌜ Walk-gives (take (to - from) (drop from (now (list .entry)))) (λ b d. run-of (now (recs .entry)) (now (line .entry)) (now (off .entry)) (w .exprs) (now (steps .entry)) «n_steps» (now (consumer .entry)) (now (slot .entry)) (now (producer .entry)) (now (unordered .entry)) edges b d (w .tally)) (λ b d. run-of (now (recs .exit)) (now (line .exit)) (now (off .exit)) (r .exprs) (now (steps .exit)) «n_steps» (now (consumer .entry)) (now (slot .entry)) (now (producer .exit)) (now (unordered .exit)) edges b d (r .tally)) w r (drop (r .at) (now (back .exit))) ⌝ }
-    ensures { λ r. ⌜ Run-held (now (recs .exit)) (now (line .exit)) (now (off .exit)) (r .exprs) (now (steps .exit)) «n_steps» (now (producer .exit)) (now (unordered .exit)) edges ⌝ }
-    ensures { λ r. ⌜ (length (now (back .exit)) ≡ 288) × (r .at ≤ 288) × (r .removed ≤ w .removed + (to - from)) ⌝ }
+    requires { ⌜ Run-held (now recs) (now line) (now off) (w .exprs) (now steps) (now edges) size × In-rows (now ends) (size .edges) (size .steps) ⌝ }
+    requires { ⌜ Walk-asks (now list) (λ b d. run-of (now recs) (now line) (now off) (w .exprs) (now steps) (now ends) (now edges) size b d (w .tally)) × Sets-out (now list) (now back) w ⌝ }
+    ensures { λ r. ⌜ Walk-gives (now (list .entry)) (λ b d. run-of (now (recs .entry)) (now (line .entry)) (now (off .entry)) (w .exprs) (now (steps .entry)) (now (ends .entry)) (now (edges .entry)) size b d (w .tally)) (λ b d. run-of (now (recs .exit)) (now (line .exit)) (now (off .exit)) (r .exprs) (now (steps .exit)) (now (ends .entry)) (now (edges .exit)) size b d (r .tally)) w r (drop (r .at) (now (back .exit))) ⌝ }
+    ensures { λ r. ⌜ Run-held (now (recs .exit)) (now (line .exit)) (now (off .exit)) (r .exprs) (now (steps .exit)) (now (edges .exit)) size ⌝ }
+    ensures { λ r. ⌜ Goes-back (now (back .exit)) (w .removed + length (now (list .entry))) r ⌝ }
 {
     let mut r = w;
-    let mut i = from;
-    while i < to {
+    let mut i: usize = 0;
+    while i < list.len() {
         if r.refused != 0 {
             return r;
         }
-        r = visit_place(
-            recs,
-            line,
-            off,
-            steps,
-            n_steps,
-            consumer,
-            slot,
-            in_edges,
-            producer,
-            unordered,
-            edges,
-            back,
-            list[i],
-            r,
-        );
+        r = visit_place(recs, line, off, steps, ends, edges, size, back, list[i], r);
         i = i + 1;
     }
     r
@@ -178,22 +148,16 @@ fn walk_down(
     off: &mut [bool; 128],
     exprs: usize,
     steps: &mut [u8; 1024],
-    n_steps: usize,
-    consumer: &[u8; 256],
-    slot: &[u8; 256],
-    in_edges: &[u8; 32],
-    producer: &mut [u8; 256],
-    unordered: &mut [bool; 256],
-    edges: usize,
-    list: &[u8; 288],
-    places: usize,
+    ends: &[u8; 544],
+    edges: &mut [u8; 512],
+    size: GraphSize,
+    list: &[u8],
     back: &mut [u8; 288],
 ) -> Walked
-    requires { ⌜ Fetch-asks (now recs) (now line) (now off) exprs (now steps) «n_steps» (now consumer) (now slot) (now in_edges) (now producer) (now unordered) edges (now list) places ⌝ }
-    requires { ⌜ length (now back) ≡ 288 ⌝ }
-    ensures { λ r. ⌜ Down-gives (sheet-of (now (recs .entry)) (now (line .entry)) (now (off .entry)) exprs (now (steps .entry)) «n_steps») (λ b d. run-of (now (recs .exit)) (now (line .exit)) (now (off .exit)) (r .exprs) (now (steps .exit)) «n_steps» (now (consumer .entry)) (now (slot .entry)) (now (producer .exit)) (now (unordered .exit)) edges b d (r .tally)) r (drop (r .at) (now (back .exit))) ⌝ }
-    ensures { λ r. ⌜ Run-held (now (recs .exit)) (now (line .exit)) (now (off .exit)) (r .exprs) (now (steps .exit)) «n_steps» (now (producer .exit)) (now (unordered .exit)) edges ⌝ }
-    ensures { λ r. ⌜ (length (now (back .exit)) ≡ 288) × (r .at ≤ 288) × (r .removed ≤ 288) ⌝ }
+    requires { ⌜ Fetch-asks (now recs) (now line) (now off) exprs (now steps) (now ends) (now edges) size (now list) × (length (now back) ≡ 288) ⌝ }
+    ensures { λ r. ⌜ Down-gives (sheet-of (now (recs .entry)) (now (line .entry)) (now (off .entry)) exprs (now (steps .entry)) (size .steps)) (λ b d. run-of (now (recs .exit)) (now (line .exit)) (now (off .exit)) (r .exprs) (now (steps .exit)) (now (ends .entry)) (now (edges .exit)) size b d (r .tally)) r (drop (r .at) (now (back .exit))) ⌝ }
+    ensures { λ r. ⌜ Run-held (now (recs .exit)) (now (line .exit)) (now (off .exit)) (r .exprs) (now (steps .exit)) (now (edges .exit)) size ⌝ }
+    ensures { λ r. ⌜ Goes-back (now (back .exit)) 288 r ⌝ }
 {
     let start = Walked {
         refused: 0,
@@ -205,25 +169,7 @@ fn walk_down(
             looks: 0,
         },
     };
-    size_288(list);
-    walk(
-        recs,
-        line,
-        off,
-        steps,
-        n_steps,
-        consumer,
-        slot,
-        in_edges,
-        producer,
-        unordered,
-        edges,
-        list,
-        0,
-        places,
-        back,
-        start,
-    )
+    walk(recs, line, off, steps, ends, edges, size, list, back, start)
 }
 
 // The upward walk: back along the places that the downward walk stored, from down.at on.
@@ -232,21 +178,17 @@ fn walk_back(
     line: &mut [u8; 128],
     off: &mut [bool; 128],
     steps: &mut [u8; 1024],
-    n_steps: usize,
-    consumer: &[u8; 256],
-    slot: &[u8; 256],
-    in_edges: &[u8; 32],
-    producer: &mut [u8; 256],
-    unordered: &mut [bool; 256],
-    edges: usize,
+    ends: &[u8; 544],
+    edges: &mut [u8; 512],
+    size: GraphSize,
     back: &[u8; 288],
     down: Walked,
 ) -> Walked
-    requires { ⌜ Run-held (now recs) (now line) (now off) (down .exprs) (now steps) «n_steps» (now producer) (now unordered) edges ⌝ }
-    requires { ⌜ Walk-asks (drop (down .at) (now back)) (λ b d. run-of (now recs) (now line) (now off) (down .exprs) (now steps) «n_steps» (now consumer) (now slot) (now producer) (now unordered) edges b d (down .tally)) ⌝ }
-    requires { ⌜ (length (now back) ≡ 288) × (down .at ≤ 288) × (down .removed ≤ 288) × In-rows (now consumer) (now in_edges) edges «n_steps» ⌝ }
-    ensures { λ r. ⌜ ((pushed : List ℕ) × Walk-gives (drop (down .at) (now (back .entry))) (λ b d. run-of (now (recs .entry)) (now (line .entry)) (now (off .entry)) (down .exprs) (now (steps .entry)) «n_steps» (now (consumer .entry)) (now (slot .entry)) (now (producer .entry)) (now (unordered .entry)) edges b d (down .tally)) (λ b d. run-of (now (recs .exit)) (now (line .exit)) (now (off .exit)) (r .exprs) (now (steps .exit)) «n_steps» (now (consumer .entry)) (now (slot .entry)) (now (producer .exit)) (now (unordered .exit)) edges b d (r .tally)) down r pushed) ⌝ }
-    ensures { λ r. ⌜ Run-held (now (recs .exit)) (now (line .exit)) (now (off .exit)) (r .exprs) (now (steps .exit)) «n_steps» (now (producer .exit)) (now (unordered .exit)) edges ⌝ }
+    requires { ⌜ Run-held (now recs) (now line) (now off) (down .exprs) (now steps) (now edges) size × In-rows (now ends) (size .edges) (size .steps) ⌝ }
+    requires { ⌜ Walk-asks (drop (down .at) (now back)) (λ b d. run-of (now recs) (now line) (now off) (down .exprs) (now steps) (now ends) (now edges) size b d (down .tally)) ⌝ }
+    requires { ⌜ Goes-back (now back) 288 down ⌝ }
+    ensures { λ r. ⌜ ((pushed : List ℕ) × Walk-gives (drop (down .at) (now (back .entry))) (λ b d. run-of (now (recs .entry)) (now (line .entry)) (now (off .entry)) (down .exprs) (now (steps .entry)) (now (ends .entry)) (now (edges .entry)) size b d (down .tally)) (λ b d. run-of (now (recs .exit)) (now (line .exit)) (now (off .exit)) (r .exprs) (now (steps .exit)) (now (ends .entry)) (now (edges .exit)) size b d (r .tally)) down r pushed) ⌝ }
+    ensures { λ r. ⌜ Run-held (now (recs .exit)) (now (line .exit)) (now (off .exit)) (r .exprs) (now (steps .exit)) (now (edges .exit)) size ⌝ }
 {
     let mut again: [u8; 288] = [0; 288];
     let tally = down.tally;
@@ -257,21 +199,17 @@ fn walk_back(
         exprs: down.exprs,
         tally: tally,
     };
+    let all = &back[..];
+    let at = down.at;
     walk(
         recs,
         line,
         off,
         steps,
-        n_steps,
-        consumer,
-        slot,
-        in_edges,
-        producer,
-        unordered,
+        ends,
         edges,
-        back,
-        down.at,
-        288,
+        size,
+        &all[at..],
         &mut again,
         start,
     )
@@ -300,19 +238,14 @@ pub fn simplify_and_fetch_orderings(
     off: &mut [bool; 128],
     exprs: usize,
     steps: &mut [u8; 1024],
-    n_steps: usize,
-    consumer: &[u8; 256],
-    slot: &[u8; 256],
-    in_edges: &[u8; 32],
-    producer: &mut [u8; 256],
-    unordered: &mut [bool; 256],
-    edges: usize,
-    list: &[u8; 288],
-    places: usize,
+    ends: &[u8; 544],
+    edges: &mut [u8; 512],
+    size: GraphSize,
+    list: &[u8],
 ) -> Orderings
-    requires { ⌜ Fetch-asks (now recs) (now line) (now off) exprs (now steps) «n_steps» (now consumer) (now slot) (now in_edges) (now producer) (now unordered) edges (now list) places ⌝ }
-    ensures { λ r. ⌜ Orderings-are (simplify-and-fetch-orderings (sheet-of (now (recs .entry)) (now (line .entry)) (now (off .entry)) exprs (now (steps .entry)) «n_steps»)) (λ m b d t. run-of (now (recs .exit)) (now (line .exit)) (now (off .exit)) m (now (steps .exit)) «n_steps» (now (consumer .entry)) (now (slot .entry)) (now (producer .exit)) (now (unordered .exit)) edges b d t) r ⌝ }
-    ensures { λ r. ⌜ Orderings-held (λ m. Run-held (now (recs .exit)) (now (line .exit)) (now (off .exit)) m (now (steps .exit)) «n_steps» (now (producer .exit)) (now (unordered .exit)) edges) (fetch-stopped (sheet-of (now (recs .entry)) (now (line .entry)) (now (off .entry)) exprs (now (steps .entry)) «n_steps»)) (λ m b d t. run-of (now (recs .exit)) (now (line .exit)) (now (off .exit)) m (now (steps .exit)) «n_steps» (now (consumer .entry)) (now (slot .entry)) (now (producer .exit)) (now (unordered .exit)) edges b d t) r ⌝ }
+    requires { ⌜ Fetch-asks (now recs) (now line) (now off) exprs (now steps) (now ends) (now edges) size (now list) ⌝ }
+    ensures { λ r. ⌜ Orderings-are (simplify-and-fetch-orderings (sheet-of (now (recs .entry)) (now (line .entry)) (now (off .entry)) exprs (now (steps .entry)) (size .steps))) (λ m b d t. run-of (now (recs .exit)) (now (line .exit)) (now (off .exit)) m (now (steps .exit)) (now (ends .entry)) (now (edges .exit)) size b d t) r ⌝ }
+    ensures { λ r. ⌜ Orderings-held (λ m. Run-held (now (recs .exit)) (now (line .exit)) (now (off .exit)) m (now (steps .exit)) (now (edges .exit)) size) (fetch-stopped (sheet-of (now (recs .entry)) (now (line .entry)) (now (off .entry)) exprs (now (steps .entry)) (size .steps))) (λ m b d t. run-of (now (recs .exit)) (now (line .exit)) (now (off .exit)) m (now (steps .exit)) (now (ends .entry)) (now (edges .exit)) size b d t) r ⌝ }
 {
     let mut back: [u8; 288] = [0; 288];
     let down = walk_down(
@@ -321,34 +254,15 @@ pub fn simplify_and_fetch_orderings(
         off,
         exprs,
         steps,
-        n_steps,
-        consumer,
-        slot,
-        in_edges,
-        producer,
-        unordered,
+        ends,
         edges,
+        size,
         list,
-        places,
         &mut back,
     );
     if down.refused != 0 {
         return Orderings::Refused(down.refused);
     }
-    let up = walk_back(
-        recs,
-        line,
-        off,
-        steps,
-        n_steps,
-        consumer,
-        slot,
-        in_edges,
-        producer,
-        unordered,
-        edges,
-        &back,
-        down,
-    );
+    let up = walk_back(recs, line, off, steps, ends, edges, size, &back, down);
     orderings_of(up)
 }

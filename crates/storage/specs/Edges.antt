@@ -1,13 +1,13 @@
--- How the code stores the edges: an array each for the steps that consume them, their slots, the steps that produce them and their
--- marks, and one for the number of each step's first in-edge. Consumers and slots never change.
-use Prim.Native.Nat.{ℕ, _≤_, _<_}
+-- How the code stores the edges, in two arrays. `ends` has what never changes: of edge k the step that consumes it at k and its slot at
+-- 256 + k, and of step m the number of its first in-edge at 512 + m. `edges` has, of edge k, the step that produces it at k and its
+-- mark at 256 + k, which is 1 if it is unordered.
+use Prim.Native.Nat.{ℕ, _+_, _≤_, _<_}
 use mathlib.Core.Path.{_≡_}
-use mathlib.Core.Bool.{Bool, false}
 use mathlib.Core.List.{List}
 use mathlib.Core.Option.{Option, none, some}
 use lib.Dec.{eqb}
 use lib.ListN.{getD}
-use Rattle.plan.specs.Lists.{if_then_else_}
+use Rattle.plan.specs.Lists.{if_then_else_, yes?}
 use Rattle.plan.specs.Graph.{Edge}
 use Rattle.storage.specs.Stored.{table}
 
@@ -15,27 +15,28 @@ use Rattle.storage.specs.Stored.{table}
 abbrev pub producer-of : ℕ → Option ℕ
 producer-of p = if eqb p 255 then none else some p
 
-unfoldable pub stored-edge : List ℕ → List ℕ → List ℕ → List Bool → ℕ → Edge
-stored-edge consumer slot producer unordered k =
+unfoldable pub stored-edge : (ends edges : List ℕ) → ℕ → Edge
+stored-edge ends edges k =
     record {
-      consumer = getD consumer k 0;
-      slot = getD slot k 0;
-      producer = producer-of (getD producer k 0);
-      unordered = getD unordered k false;
+      consumer = getD ends k 0;
+      slot = getD ends (256 + k) 0;
+      producer = producer-of (getD edges k 0);
+      unordered = yes? (getD edges (256 + k) 0);
     }
 
-unfoldable pub stored-edges : List ℕ → List ℕ → List ℕ → List Bool → ℕ → List Edge
-stored-edges consumer slot producer unordered n = table (stored-edge consumer slot producer unordered) 0 n
+-- the first n of them
+unfoldable pub stored-edges : (ends edges : List ℕ) → ℕ → List Edge
+stored-edges ends edges n = table (stored-edge ends edges) 0 n
 
 -- In-edges ---------------------------------------------------------------------------------------------------------------------------
 
--- the edges into step m stand in a row among the first `edges`: none is before the number that in-edges has for it, and from there to
--- the last of them there is no other
-pub record In-a-row (consumer in-edges : List ℕ) (edges m : ℕ) : Type 0 where
-  pub few : getD in-edges m 0 ≤ edges
-  pub from : (k : ℕ) → k < edges → getD consumer k 0 ≡ m → getD in-edges m 0 ≤ k
-  pub row : (j k : ℕ) → getD in-edges m 0 ≤ j → j ≤ k → k < edges → getD consumer k 0 ≡ m → getD consumer j 0 ≡ m
+-- the edges into step m stand in a row among the first n: none is before the number that `ends` has for it, and from there to the last
+-- of them there is no other
+pub record In-a-row (ends : List ℕ) (n m : ℕ) : Type 0 where
+  pub few : getD ends (512 + m) 0 ≤ n
+  pub from : (k : ℕ) → k < n → getD ends k 0 ≡ m → getD ends (512 + m) 0 ≤ k
+  pub row : (j k : ℕ) → getD ends (512 + m) 0 ≤ j → j ≤ k → k < n → getD ends k 0 ≡ m → getD ends j 0 ≡ m
 
--- so do those into each of n steps
-abbrev pub In-rows : List ℕ → List ℕ → ℕ → ℕ → Type 0
-In-rows consumer in-edges edges n = (m : ℕ) → m < n → In-a-row consumer in-edges edges m
+-- so do those into each of the steps
+abbrev pub In-rows : List ℕ → ℕ → ℕ → Type 0
+In-rows ends n steps = (m : ℕ) → m < steps → In-a-row ends n m

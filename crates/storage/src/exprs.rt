@@ -1,11 +1,10 @@
 // What is read of a stored expression: the record that a line of the arena holds.
-ghost use mathlib.Core.Path.{_≡_};
 ghost use Prim.Native.Nat.{_+_, _*_, _<_, _≤_};
 ghost use lib.ListN.{length};
-ghost use Rattle.plan.specs.Lists.{if_then_else_};
 ghost use Rattle.storage.specs.Stored.{Expr-formed};
 ghost use Rattle.storage.specs.Exprs.{IsHeld};
 use plan::aexpr::AExpr;
+use plan::choice::pick_byte;
 
 pub struct ExprRecord {
     pub kind: AExpr,
@@ -23,7 +22,7 @@ pub fn expr_of(recs: &[u8; 2048], l: u8, off: bool) -> ExprRecord
     ensures { λ r. ⌜ IsHeld (now (recs .entry)) l off r ⌝ }
 {
     let b = (l as usize) * 16;
-    let option = unless(off, recs[b + 3]);
+    let option = pick_byte(off, 0, recs[b + 3]);
     ExprRecord {
         kind: AExpr::of_number(recs[b]),
         scalar: recs[b + 1] == 1,
@@ -41,10 +40,4 @@ pub fn expr_of(recs: &[u8; 2048], l: u8, off: bool) -> ExprRecord
             recs[b + 11],
         ],
     }
-}
-
-fn unless(off: bool, option: u8) -> u8
-    ensures { λ r. ⌜ r ≡ (if off then 0 else option) ⌝ }
-{
-    if off { 0 } else { option }
 }

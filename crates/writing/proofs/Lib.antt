@@ -1,5 +1,4 @@
 pub mod Over
 pub mod Digits
 pub mod Tally
-pub mod EdgeLine
 pub mod ByteByByte

@@ -1,6 +1,5 @@
 // The finished sheet block by block: E lines, P lines, G lines, T line.
 ghost use Prim.Native.Nat.{ℕ, _+_, _≤_, _<_};
-ghost use mathlib.Core.List.{List};
 ghost use lib.ListN.{length};
 ghost use Rattle.plan.specs.Lists.{concat-map};
 ghost use Rattle.plan.specs.Text.{expr-line, step-line, edge-line};
@@ -72,22 +71,15 @@ pub fn put_steps(out: &mut [u8], steps: &[u8; 1024], n: usize) -> usize
     len
 }
 
-// Whatever produces the edges: that is not printed.
-pub fn put_edges(
-    out: &mut [u8],
-    consumer: &[u8; 256],
-    slot: &[u8; 256],
-    unordered: &[bool; 256],
-    n: usize,
-) -> usize
+pub fn put_edges(out: &mut [u8], ends: &[u8; 544], edges: &[u8; 512], n: usize) -> usize
     requires { ⌜ n ≤ 256 ⌝ }
     requires { ⌜ 3584 ≤ length (now out) ⌝ }
-    ensures { λ r. ⌜ ((producer : List ℕ) → Wrote (concat-map edge-line (stored-edges (now (consumer .entry)) (now (slot .entry)) producer (now (unordered .entry)) n)) (now (out .entry)) (now (out .exit)) r) × (r ≤ 3584) ⌝ }
+    ensures { λ r. ⌜ Wrote (concat-map edge-line (stored-edges (now (ends .entry)) (now (edges .entry)) n)) (now (out .entry)) (now (out .exit)) r × (r ≤ 3584) ⌝ }
 {
     let mut len: usize = 0;
     let mut i: usize = 0;
     while i < n {
-        let k = put_edge(&mut out[len..], consumer[i], slot[i], unordered[i]);
+        let k = put_edge(&mut out[len..], ends[i], ends[256 + i], edges[256 + i] == 1);
         len = len + k;
         i = i + 1;
     }

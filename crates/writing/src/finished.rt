@@ -1,6 +1,6 @@
 // The whole finished sheet, block by block.
 ghost use mathlib.Core.Path.{_≡_};
-ghost use mathlib.Core.List.{List, [], _∷_};
+ghost use mathlib.Core.List.{[], _∷_};
 ghost use Prim.Native.Nat.{ℕ, _≤_, _<_};
 ghost use lib.ListN.{length};
 ghost use Rattle.plan.specs.Lists.{concat-map};
@@ -28,14 +28,13 @@ pub struct Tallies {
     pub looks: u64,
 }
 
-// Whatever produces the edges: that is not printed.
+// A run as it is stored, its arena written out.
 pub fn put_finished(
     out: &mut [u8],
     exprs: &[u8; 2048],
     steps: &[u8; 1024],
-    consumer: &[u8; 256],
-    slot: &[u8; 256],
-    unordered: &[bool; 256],
+    ends: &[u8; 544],
+    edges: &[u8; 512],
     n: BlockCounts,
     t: Tallies,
 ) -> Finished
@@ -43,12 +42,12 @@ pub fn put_finished(
     requires { ⌜ (n .exprs ≤ 128) × (n .steps ≤ 32) × (n .edges ≤ 256) ⌝ }
     requires { ⌜ ((i : ℕ) → i < n .exprs → Expr-formed (now exprs) i) ⌝ }
     requires { ⌜ ((i : ℕ) → i < n .steps → Step-formed (now steps) i) ⌝ }
-    ensures { λ r. ⌜ ((producer : List ℕ) → Sheet-wrote (concat-map expr-line (stored-exprs (now (exprs .entry)) (n .exprs))) (concat-map step-line (stored-steps (now (steps .entry)) (n .steps))) (concat-map edge-line (stored-edges (now (consumer .entry)) (now (slot .entry)) producer (now (unordered .entry)) (n .edges))) (line 84 (t .removed ∷ t .visits ∷ t .looks ∷ [])) (now (out .entry)) (now (out .exit)) r) ⌝ }
+    ensures { λ r. ⌜ Sheet-wrote (concat-map expr-line (stored-exprs (now (exprs .entry)) (n .exprs))) (concat-map step-line (stored-steps (now (steps .entry)) (n .steps))) (concat-map edge-line (stored-edges (now (ends .entry)) (now (edges .entry)) (n .edges))) (line 84 (t .removed ∷ t .visits ∷ t .looks ∷ [])) (now (out .entry)) (now (out .exit)) r ⌝ }
     ensures { λ r. ⌜ (r .removed ≡ t .removed) × (r .visits ≡ t .visits) × (r .looks ≡ t .looks) ⌝ }
 {
     let a = put_exprs(out, exprs, n.exprs);
     let b = a + put_steps(&mut out[a..], steps, n.steps);
-    let c = b + put_edges(&mut out[b..], consumer, slot, unordered, n.edges);
+    let c = b + put_edges(&mut out[b..], ends, edges, n.edges);
     let d = c + put_tally(&mut out[c..], t.removed as u64, t.visits, t.looks);
     Finished {
         exprs: a,

@@ -4,7 +4,7 @@ use Rattle.cases.proofs.graph.graph_agrees.Statement.{statement}
 use Rattle.cases.proofs.graph.graph_agrees.Tie as tie
 
 build-ir-traversal-graph-requires : tie.Need-build-ir-traversal-graph-requires
-build-ir-traversal-graph-requires c κs = let p = c .before .before .before .before .before .before .before .pre in (p .0, (p .1 .0, (p .1 .1, zeros 32)))
+build-ir-traversal-graph-requires c κs = let p = c .before .before .before .before .before .pre in (p .0, (p .1 .0, (p .1 .1, zeros 544)))
 
 returns : tie.Need-returns
 returns c = search needs

@@ -4,10 +4,10 @@ use Rattle.cases.proofs.graph.pairs_begin.Statement.{statement}
 use Rattle.cases.proofs.graph.pairs_begin.Tie as tie
 
 abbrev Inv-loop : tie.InvT-loop
-Inv-loop consumer slot b n i₀ i = Unit {0}
+Inv-loop ends b n i₀ i = Unit {0}
 
 abbrev μ-loop : tie.MeasureT-loop
-μ-loop consumer slot b n i₀ i = n - i
+μ-loop ends b n i₀ i = n - i
 
 loop-holds : tie.Need-loop-holds Inv-loop μ-loop
 loop-holds c = tt
@@ -24,14 +24,17 @@ shared-slice-read-if1 c = omega arith
 returns : tie.Need-returns Inv-loop μ-loop
 returns c = tt
 
-element-copy-out-if2 : tie.Need-element-copy-out-if2 Inv-loop μ-loop
-element-copy-out-if2 c = omega arith
-
 add-if2 : tie.Need-add-if2 Inv-loop μ-loop
 add-if2 c = omega arith
 
+element-copy-out-if2 : tie.Need-element-copy-out-if2 Inv-loop μ-loop
+element-copy-out-if2 c = omega arith
+
 add-if2-2 : tie.Need-add-if2-2 Inv-loop μ-loop
 add-if2-2 c = omega arith
+
+add-if2-3 : tie.Need-add-if2-3 Inv-loop μ-loop
+add-if2-3 c = omega arith
 
 shared-slice-read-if2 : tie.Need-shared-slice-read-if2 Inv-loop μ-loop
 shared-slice-read-if2 c = omega arith
@@ -62,9 +65,10 @@ pairs-begin-spec =
     add-if1
     shared-slice-read-if1
     returns
-    element-copy-out-if2
     add-if2
+    element-copy-out-if2
     add-if2-2
+    add-if2-3
     shared-slice-read-if2
     returns-2
     add-i

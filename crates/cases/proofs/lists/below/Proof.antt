@@ -1,6 +1,6 @@
 use native.Mathlib.Omega.{arith}
 use Prim.Native.Nat.{_-_}
-use Rattle.expr.proofs.Records.{no}
+use mathlib.Core.Bool.{false≢true}
 use Rattle.cases.proofs.Nodes.{First-below, none-yet, one-more, all-below}
 use borrow.Author.Needs.{needs}
 use Rattle.cases.proofs.lists.below.Statement.{statement}
@@ -25,7 +25,7 @@ wide-requires-2 : tie.Need-wide-requires-2 Inv-loop μ-loop
 wide-requires-2 c κs = search needs
 
 returns : tie.Need-returns Inv-loop μ-loop
-returns c = λ h. absurd (no h)
+returns c = λ h. absurd (false≢true h)
 
 add-i : tie.Need-add-i Inv-loop μ-loop
 add-i c = search needs

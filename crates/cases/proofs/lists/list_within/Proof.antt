@@ -1,5 +1,5 @@
 use borrow.Author.Needs.{needs}
-use Rattle.cases.proofs.Nodes.{not-false}
+use borrow.Author.Tests.{not-false}
 use Rattle.cases.proofs.lists.list_within.Statement.{statement}
 use Rattle.cases.proofs.lists.list_within.Tie as tie
 

@@ -11,7 +11,7 @@ put-finished-requires : tie.Need-put-finished-requires
 put-finished-requires c κs =
     let p = c .before .before .before .before .before .before .pre in
     let k = c .before .before .before .store-lines .ensures in
-    (p .0, ((p .1 .0 .based .few, p .1 .1 .few, p .1 .2), (k .1, p .1 .1 .formed)))
+    (p .0, ((p .1 .arena .based .few, p .1 .steps-held .few, p .1 .few), (k .1, p .1 .steps-held .formed)))
 
 same-length : tie.Need-same-length
 same-length c = search needs
@@ -20,7 +20,7 @@ returns : tie.Need-returns
 returns c =
     let a = c .before .before .before .before .before .before .before .before .before .args in
     let w = c .before .before .put-finished .ensures in
-    run-wrote (now (a .recs)) (now (a .line)) (now (a .off)) (a .f .exprs) (now (a .steps)) (a .n-steps) (now (a .consumer)) (now (a .slot)) (now (a .unordered)) (a .edges) (a .f .removed) (a .f .tally) _ _ _ _ (c .before .before .before .before .before .before .store-lines .ensures .0) (w .0) (w .1)
+    run-wrote (now (a .recs)) (now (a .line)) (now (a .off)) (a .f .exprs) (now (a .steps)) (now (a .ends)) (now (a .edges)) (a .size) (a .f .removed) (a .f .tally) _ _ _ _ (c .before .before .before .before .before .before .store-lines .ensures .0) (w .0) (w .1)
 
 pub write-run-spec : {M : Type 1} → statement M
 write-run-spec =

@@ -3,17 +3,18 @@ use denote.Ref.{now}
 use Prim.Native.Nat.{_+_, _-_, _≤_}
 use native.Mathlib.Omega.{arith}
 use borrow.Author.Needs.{needs}
-use lib.ListN.{length}
-use Rattle.ir_graph.proofs.Linking.{So-far, none-linked, next-linked, all-linked}
+use lib.ListN.{length, take}
+use Rattle.ir_graph.specs.Edges.{Linked}
+use Rattle.ir_graph.proofs.Linking.{between, none-linked, next-linked, all-linked}
 use Rattle.ir_graph.proofs.edges.link.Statement.{statement}
 use Rattle.ir_graph.proofs.edges.link.Tie as tie
 
 abbrev Inv-loop : tie.InvT-loop
-Inv-loop step places start end consumer₀ slot₀ producer₀ edges num-inputs k₀ consumer slot producer k =
-    (k ≤ end - start) × (num-inputs ≡ end - start) × (length places ≡ 288) × So-far step start end places consumer₀ slot₀ producer₀ edges k consumer slot producer
+Inv-loop step places start end ends₀ edges₀ made num-inputs k₀ ends edges k =
+    (k ≤ end - start) × (num-inputs ≡ end - start) × (length places ≡ 288) × Linked step (take k (between start end places)) ends₀ edges₀ made ends edges (made + k)
 
 abbrev μ-loop : tie.MeasureT-loop
-μ-loop step places start end consumer₀ slot₀ producer₀ edges num-inputs k₀ consumer slot producer k = end - start - k
+μ-loop step places start end ends₀ edges₀ made num-inputs k₀ ends edges k = end - start - k
 
 size-288-requires : tie.Need-size-288-requires Inv-loop μ-loop
 size-288-requires c κs = search needs
@@ -22,13 +23,7 @@ sub-num-inputs : tie.Need-sub-num-inputs Inv-loop μ-loop
 sub-num-inputs c = search needs
 
 loop-holds : tie.Need-loop-holds Inv-loop μ-loop
-loop-holds c =
-    let a = c .before .args in (
-      omega arith,
-      refl,
-      c .size-288 .ensures,
-      none-linked (a .step) (a .start) (a .end) (now (a .places)) (now (a .consumer)) (now (a .slot)) (now (a .producer)) (a .edges),
-    )
+loop-holds c = (omega arith, refl, c .size-288 .ensures, none-linked)
 
 add-make-edge : tie.Need-add-make-edge Inv-loop μ-loop
 add-make-edge c = search needs
@@ -44,8 +39,8 @@ element-copy-out-make-edge c = search needs
 
 make-edge-requires : tie.Need-make-edge-requires Inv-loop μ-loop
 make-edge-requires c κs =
-    let s = c .before .before .before .before .before .before .before in
-    let k = c .before .before .before .before .before .loop .k in
+    let s = c .before .before .before .before .before .before in
+    let k = c .before .before .before .before .loop .k in
     (omega arith, s .pre .1 .1 (s .args .start + k) (omega arith) (omega arith))
 
 add-k : tie.Need-add-k Inv-loop μ-loop
@@ -56,14 +51,9 @@ loop-less c = search needs
 
 loop-again : tie.Need-loop-again Inv-loop μ-loop
 loop-again c =
-    let a = c .before .before .before .before .before .before .before .before .args in
-    let l = c .before .before .before .before .before .before .loop in (
-      omega arith,
-      refl,
-      l .inv .2,
-      next-linked (a .step) (a .start) (a .end) (now (a .places)) (now (a .consumer)) (now (a .slot)) (now (a .producer)) (a .edges)
-          (l .k) (l .consumer) (l .slot) (l .producer) _ _ _ (omega arith) (omega arith) (l .inv .3) (c .make-edge .ensures),
-    )
+    let a = c .before .before .before .before .before .before .before .args in
+    let l = c .before .before .before .before .before .loop in
+    (omega arith, refl, l .inv .2, next-linked (a .start) (a .end) (l .k) (now (a .places)) (omega arith) (l .inv .3) (omega arith) (c .make-edge .ensures))
 
 add-result : tie.Need-add-result Inv-loop μ-loop
 add-result c = search needs
@@ -72,8 +62,7 @@ returns : tie.Need-returns Inv-loop μ-loop
 returns c =
     let a = c .before .before .before .args in
     let l = c .before .loop in
-    all-linked (a .step) (a .start) (a .end) (now (a .places)) (now (a .consumer)) (now (a .slot)) (now (a .producer)) (a .edges)
-    (l .k) (l .consumer) (l .slot) (l .producer) (omega arith) (omega arith) (l .inv .3)
+    all-linked (a .start) (a .end) (l .k) (now (a .places)) (omega arith) (l .inv .3) (omega arith)
 
 pub link-spec : {M : Type 1} → statement M
 link-spec =

@@ -5,38 +5,45 @@ use Rattle.ir_graph.proofs.Linking.{edge-more}
 use Rattle.ir_graph.proofs.edges.make_edge.Statement.{statement}
 use Rattle.ir_graph.proofs.edges.make_edge.Tie as tie
 
-size-256-requires : tie.Need-size-256-requires
-size-256-requires c κs = search needs
+size-544-requires : tie.Need-size-544-requires
+size-544-requires c κs = search needs
 
-size-256-requires-2 : tie.Need-size-256-requires-2
-size-256-requires-2 c κs = search needs
+size-512-requires : tie.Need-size-512-requires
+size-512-requires c κs = search needs
 
-size-256-requires-3 : tie.Need-size-256-requires-3
-size-256-requires-3 c κs = search needs
+element-write-ends : tie.Need-element-write-ends
+element-write-ends c = search needs
 
-element-write-consumer : tie.Need-element-write-consumer
-element-write-consumer c = search needs
+add-ends : tie.Need-add-ends
+add-ends c = search needs
 
-element-write-slot : tie.Need-element-write-slot
-element-write-slot c = search needs
+element-write-ends-2 : tie.Need-element-write-ends-2
+element-write-ends-2 c = search needs
 
-element-write-producer : tie.Need-element-write-producer
-element-write-producer c = search needs
+element-write-edges : tie.Need-element-write-edges
+element-write-edges c = search needs
+
+add-edges : tie.Need-add-edges
+add-edges c = search needs
+
+element-write-edges-2 : tie.Need-element-write-edges-2
+element-write-edges-2 c = search needs
 
 returns : tie.Need-returns
 returns c =
-    let s = c .before .before .before .before .before .before in
-    edge-more (now (s .args .consumer)) (now (s .args .slot)) (now (s .args .producer)) (s .args .e) (s .args .step) (s .args .k) (s .args .input) (omega arith)
-    (omega (arith, c .before .before .before .before .size-256 .ensures)) (omega (arith, c .before .before .size-2562 .ensures)) (omega (arith, c .size-2563 .ensures))
+    let a = c .before .before .before .before .args in
+    edge-more (now (a .ends)) (now (a .edges)) (a .e) (a .step) (a .k) (a .input) (omega arith) (omega arith) (c .before .before .size-544 .ensures) (c .size-512 .ensures)
 
 pub make-edge-spec : {M : Type 1} → statement M
 make-edge-spec =
     tie.close
     (tie.spec
-    size-256-requires
-    size-256-requires-2
-    size-256-requires-3
-    element-write-consumer
-    element-write-slot
-    element-write-producer
+    size-544-requires
+    size-512-requires
+    element-write-ends
+    add-ends
+    element-write-ends-2
+    element-write-edges
+    add-edges
+    element-write-edges-2
     returns)

@@ -6,7 +6,8 @@ count-hits-requires : tie.Need-count-hits-requires
 count-hits-requires c κs = let p = c .before .before .pre in (p .0, (p .1 .0, (p .1 .1 .0, zeros 32)))
 
 grow-requires : tie.Need-grow-requires
-grow-requires c κs = let p = c .before .before .before .before .before .before .before .before .before .pre in (p .0, (p .1 .0, (p .1 .1 .0, (c .before .before .before .before .before .before .count-hits .ensures .0, p .1 .1 .1))))
+grow-requires c κs =
+    let p = c .before .before .before .before .before .before .before .pre in (p .0, (p .1 .0, (p .1 .1 .0, (c .before .before .before .before .count-hits .ensures .0, p .1 .1 .1))))
 
 returns : tie.Need-returns
 returns c = c .grow .ensures

@@ -12,29 +12,26 @@ use Rattle.ir_graph.proofs.ir_graph.grow.Statement.{statement}
 use Rattle.ir_graph.proofs.ir_graph.grow.Tie as tie
 
 abbrev Inv-loop : tie.InvT-loop
-Inv-loop steps n hits₀ places₀ consumer₀ slot₀ producer₀ in-edges₀ len₀ edges₀ i₀ hits places consumer slot producer in-edges len edges i =
-    Placing (stored-steps steps n) places hits consumer slot producer in-edges len edges i
+Inv-loop steps n hits₀ places₀ ends₀ edges₀ len₀ made₀ i₀ hits places ends edges len made i = Placing (stored-steps steps n) places hits ends edges len made i
 
 abbrev μ-loop : tie.MeasureT-loop
-μ-loop steps n hits₀ places₀ consumer₀ slot₀ producer₀ in-edges₀ len₀ edges₀ i₀ hits places consumer slot producer in-edges len edges i = length (sinks (stored-steps steps n)) + length (named (stored-steps steps n)) - i
+μ-loop steps n hits₀ places₀ ends₀ edges₀ len₀ made₀ i₀ hits places ends edges len made i = length (sinks (stored-steps steps n)) + length (named (stored-steps steps n)) - i
 
 small : (c : tie.In-loop Inv-loop μ-loop) → c .before .before .before .before .before .before .before .before .args .n ≤ 32
 small c = c .before .before .before .before .before .before .before .before .pre .0
 
 turn-in : (c : tie.In-loop Inv-loop μ-loop)
-    → Turn (now (c .before .before .before .before .before .before .before .before .args .steps)) (c .before .before .before .before .before .before .before .before .args .n) (c .before .loop .hits) (c .before .loop .len) (c .before .loop .edges)
+    → Turn (now (c .before .before .before .before .before .before .before .before .args .steps)) (c .before .before .before .before .before .before .before .before .args .n) (c .before .loop .hits) (c .before .loop .len) (c .before .loop .made)
     (getD (c .before .loop .places) (c .before .loop .i) 0)
 turn-in c =
     let s = c .before .before .before .before .before .before .before .before in
-    let l = c .before .loop in
-    turn-at (now (s .args .steps)) (s .args .n) (s .pre .0) (s .pre .1 .0) (s .pre .1 .1 .0)
-    (l .places) (l .hits) (l .consumer) (l .slot) (l .producer) (l .in-edges) (l .len) (l .edges) (l .i) (l .inv) (c .loop-test .taken)
+    turn-at (now (s .args .steps)) (s .args .n) (s .pre .0) (s .pre .1 .0) (s .pre .1 .1 .0) (c .before .loop .inv) (c .loop-test .taken)
 
 size-288-requires : tie.Need-size-288-requires Inv-loop μ-loop
 size-288-requires c κs = search needs
 
-size-32-requires : tie.Need-size-32-requires Inv-loop μ-loop
-size-32-requires c κs = search needs
+size-544-requires : tie.Need-size-544-requires Inv-loop μ-loop
+size-544-requires c κs = search needs
 
 push-roots-requires : tie.Need-push-roots-requires Inv-loop μ-loop
 push-roots-requires c κs = search needs
@@ -43,20 +40,22 @@ loop-holds : tie.Need-loop-holds Inv-loop μ-loop
 loop-holds c =
     let s = c .before .before .before .before .before .before in
     placing (now (s .args .steps)) (s .args .n) (s .pre .0) (s .pre .1 .0) (s .pre .1 .1 .0)
-    _ (now (s .args .places)) (now (s .args .hits)) (now (s .args .consumer)) (now (s .args .slot)) (now (s .args .producer)) (now (s .args .in-edges)) _
-    (c .before .before .before .before .size-288 .ensures) (c .before .before .size-32 .ensures) (s .pre .1 .1 .1 .1) (s .pre .1 .1 .1 .0) (c .push-roots .ensures)
+    (c .before .before .before .before .size-288 .ensures) (c .before .before .size-544 .ensures) (s .pre .1 .1 .1 .1) (s .pre .1 .1 .1 .0) (c .push-roots .ensures)
 
 element-copy-out-current : tie.Need-element-copy-out-current Inv-loop μ-loop
 element-copy-out-current c = omega (arith, c .before .loop .inv .growing .fits)
 
-cast-in-edges : tie.Need-cast-in-edges Inv-loop μ-loop
-cast-in-edges c = let t = turn-in (c .before) in omega (arith, t .edges)
+cast-ends : tie.Need-cast-ends Inv-loop μ-loop
+cast-ends c = let t = turn-in (c .before) in omega (arith, t .edges)
 
-cast-in-edges-2 : tie.Need-cast-in-edges-2 Inv-loop μ-loop
-cast-in-edges-2 c = let t = turn-in (c .before) in omega (arith, t .there, small (c .before))
+cast-ends-2 : tie.Need-cast-ends-2 Inv-loop μ-loop
+cast-ends-2 c = let t = turn-in (c .before) in omega (arith, t .there, small (c .before))
 
-element-write-in-edges : tie.Need-element-write-in-edges Inv-loop μ-loop
-element-write-in-edges c = let t = turn-in (c .before) in omega (arith, t .there, small (c .before))
+add-ends : tie.Need-add-ends Inv-loop μ-loop
+add-ends c = let t = turn-in (c .before) in omega (arith, t .there, small (c .before))
+
+element-write-ends : tie.Need-element-write-ends Inv-loop μ-loop
+element-write-ends c = let t = turn-in (c .before) in omega (arith, t .there, small (c .before))
 
 cast-follow : tie.Need-cast-follow Inv-loop μ-loop
 cast-follow c = let t = turn-in (c .before) in omega (arith, t .there, small (c .before))
@@ -68,44 +67,40 @@ follow-requires c κs =
 
 link-requires : tie.Need-link-requires Inv-loop μ-loop
 link-requires c κs =
-    let t = turn-in (c .before .before .before .before .before .before .before .before) in
-    let f = c .before .before .before .before .follow .ensures .0 in
-    let q = f .len in
-    let s = c .before .before .before .before .before .before .before .before .before .before .before .before .before .before .before .before in
-    let l = c .before .before .before .before .before .before .before .before .before .loop in (
-      omega (arith, q, t .few, t .places),
+    let r = c .before .before .before .before .before .before .before in
+    let t = turn-in r in
+    let f = c .before .before .before .follow .ensures in
+    let s = r .before .before .before .before .before .before .before .before in (
+      omega (arith, f .0 .len, t .few, t .places),
       (
-        omega (arith, q, t .edges),
-        pushed-there (now (s .args .steps)) (s .args .n) (s .pre .0) (s .pre .1 .0) (s .pre .1 .1 .0)
-            (l .places) (l .hits) (l .consumer) (l .slot) (l .producer) (l .in-edges) (l .len) (l .edges) (l .i) (l .inv) (c .before .before .before .before .before .before .before .before .loop-test .taken) _ _ _ f (c .before .before .before .before .follow .ensures .1),
+        omega (arith, f .0 .len, t .edges),
+        pushed-there (now (s .args .steps)) (s .args .n) (s .pre .0) (s .pre .1 .0) (s .pre .1 .1 .0) (r .before .loop .inv) (r .loop-test .taken) (f .0) (f .1),
       ),
     )
 
 add-i : tie.Need-add-i Inv-loop μ-loop
-add-i c = let t = turn-in (c .before .before .before .before .before .before .before .before .before) in omega (arith, t .places, c .before .before .before .before .before .before .before .before .before .loop-test .taken)
+add-i c =
+    let r = c .before .before .before .before .before .before .before .before in
+    let t = turn-in r in
+    omega (arith, t .places, r .loop-test .taken)
 
 loop-less : tie.Need-loop-less Inv-loop μ-loop
 loop-less c =
-    let s = c .before .before .before .before .before .before .before .before .before .before .before .before .before .before .before .before .before in
-    let l = c .before .before .before .before .before .before .before .before .before .before .loop in
-    let left = places-left (now (s .args .steps)) (s .args .n) (s .pre .0) (s .pre .1 .0) (s .pre .1 .1 .0)
-    (l .places) (l .hits) (l .consumer) (l .slot) (l .producer) (l .in-edges) (l .len) (l .edges) (l .i) (l .inv) (c .before .before .before .before .before .before .before .before .before .loop-test .taken) in
-    omega (arith, left)
+    let r = c .before .before .before .before .before .before .before .before in
+    let s = r .before .before .before .before .before .before .before .before in
+    omega (arith, places-left (now (s .args .steps)) (s .args .n) (s .pre .0) (s .pre .1 .0) (s .pre .1 .1 .0) (r .before .loop .inv) (r .loop-test .taken))
 
 loop-again : tie.Need-loop-again Inv-loop μ-loop
 loop-again c =
-    let s = c .before .before .before .before .before .before .before .before .before .before .before .before .before .before .before .before .before in
-    let l = c .before .before .before .before .before .before .before .before .before .before .loop in
-    placing-next (now (s .args .steps)) (s .args .n) (s .pre .0) (s .pre .1 .0) (s .pre .1 .1 .0)
-    (l .places) (l .hits) (l .consumer) (l .slot) (l .producer) (l .in-edges) (l .len) (l .edges) (l .i) (l .inv) (c .before .before .before .before .before .before .before .before .before .loop-test .taken)
-    _ _ _ _ _ _ _ (c .before .before .before .before .before .follow .ensures .0) (c .before .before .before .before .before .follow .ensures .1) (c .link .ensures)
+    let r = c .before .before .before .before .before .before .before .before in
+    let s = r .before .before .before .before .before .before .before .before in
+    let f = c .before .before .before .before .follow .ensures in
+    placing-next (now (s .args .steps)) (s .args .n) (s .pre .0) (s .pre .1 .0) (s .pre .1 .1 .0) (r .before .loop .inv) (r .loop-test .taken) (f .0) (f .1) (c .link .ensures)
 
 returns : tie.Need-returns Inv-loop μ-loop
 returns c =
     let s = c .before .before .before .before .before .before .before .before in
-    let l = c .before .loop in
-    built (now (s .args .steps)) (s .args .n) (s .pre .0) (s .pre .1 .0) (s .pre .1 .1 .0)
-    (l .places) (l .hits) (l .consumer) (l .slot) (l .producer) (l .in-edges) (l .len) (l .edges) (l .i) (l .inv) (c .loop-test .left)
+    built (now (s .args .steps)) (s .args .n) (s .pre .0) (s .pre .1 .0) (s .pre .1 .1 .0) (c .before .loop .inv) (c .loop-test .left)
 
 pub grow-spec : {M : Type 1} → statement M
 grow-spec =
@@ -114,13 +109,14 @@ grow-spec =
     Inv-loop
     μ-loop
     size-288-requires
-    size-32-requires
+    size-544-requires
     push-roots-requires
     loop-holds
     element-copy-out-current
-    cast-in-edges
-    cast-in-edges-2
-    element-write-in-edges
+    cast-ends
+    cast-ends-2
+    add-ends
+    element-write-ends
     cast-follow
     follow-requires
     link-requires

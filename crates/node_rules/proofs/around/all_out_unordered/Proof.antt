@@ -1,23 +1,25 @@
-use denote.Ref.{now}
-use native.Mathlib.Omega.{arith}
 use mathlib.Core.List.{List}
 use Prim.Native.Nat.{ℕ, _-_, _≤_, _<_}
 use Rattle.node_rules.proofs.OutEdges.{Loose-to, loose-none, loose-next, outs-are}
 use borrow.Author.Needs.{needs}
+use native.Mathlib.Omega.{arith}
+use denote.Ref.{now}
 use Rattle.node_rules.proofs.around.all_out_unordered.Statement.{statement}
 use Rattle.node_rules.proofs.around.all_out_unordered.Tie as tie
 
 abbrev Inv-loop : tie.InvT-loop
-Inv-loop producer unordered edges n r₀ k₀ r k =
-    (k ≤ edges) × ((consumer slot : List ℕ) (small : n < 32) → Loose-to consumer slot producer unordered edges n small k r)
+Inv-loop edges len n r₀ k₀ r k = (k ≤ len) × ((ends : List ℕ) (small : n < 32) → Loose-to ends edges len n small k r)
 
 abbrev μ-loop : tie.MeasureT-loop
-μ-loop producer unordered edges n r₀ k₀ r k = edges - k
+μ-loop edges len n r₀ k₀ r k = len - k
 
 loop-holds : tie.Need-loop-holds Inv-loop μ-loop
 loop-holds c =
     let a = c .args in
-    (omega arith, λ consumer slot small. loose-none consumer slot (now (a .producer)) (now (a .unordered)) (a .edges) (a .n) small)
+    (omega arith, λ ends small. loose-none ends (now (a .edges)) (a .len) (a .n) small)
+
+add-r : tie.Need-add-r Inv-loop μ-loop
+add-r c = search needs
 
 element-copy-out-r : tie.Need-element-copy-out-r Inv-loop μ-loop
 element-copy-out-r c = search needs
@@ -35,13 +37,13 @@ loop-again : tie.Need-loop-again Inv-loop μ-loop
 loop-again c =
     let a = c .before .before .before .before .args in
     let l = c .before .before .before .loop in
-    (omega arith, λ consumer slot small. loose-next consumer slot (now (a .producer)) (now (a .unordered)) (a .edges) (a .n) small (l .k) (l .r) (l .inv .1 consumer slot small))
+    (omega arith, λ ends small. loose-next ends (now (a .edges)) (a .len) (a .n) small (l .k) (l .r) (l .inv .1 ends small))
 
 returns : tie.Need-returns Inv-loop μ-loop
 returns c =
     let s = c .before .before in
     let l = c .before .loop in
-    λ consumer slot. outs-are consumer slot (now (s .args .producer)) (now (s .args .unordered)) (s .args .edges) (s .args .n) (s .pre .1) (l .k) (l .r) (omega (arith, l .inv .0, c .loop-test .left)) (l .inv .1 consumer slot (s .pre .1))
+    λ ends. outs-are ends (now (s .args .edges)) (s .args .len) (s .args .n) (s .pre .1) (l .k) (l .r) (omega (arith, l .inv .0, c .loop-test .left)) (l .inv .1 ends (s .pre .1))
 
 pub all-out-unordered-spec : {M : Type 1} → statement M
 all-out-unordered-spec =
@@ -50,6 +52,7 @@ all-out-unordered-spec =
     Inv-loop
     μ-loop
     loop-holds
+    add-r
     element-copy-out-r
     element-copy-out-r-2
     add-k

@@ -1,20 +1,23 @@
 use mathlib.Core.Path.{_≡_}
-use denote.Ref.{now}
-use native.Mathlib.Omega.{arith}
 use Prim.Native.Nat.{_-_, _≤_}
 use Rattle.node_rules.proofs.InEdges.{All-to, all-none, all-next}
 use borrow.Author.Needs.{needs}
+use native.Mathlib.Omega.{arith}
+use denote.Ref.{now}
 use Rattle.node_rules.proofs.around.all_unordered.Statement.{statement}
 use Rattle.node_rules.proofs.around.all_unordered.Tie as tie
 
 abbrev Inv-loop : tie.InvT-loop
-Inv-loop unordered d r₀ k₀ r k = (d .from ≤ k) × (k ≤ d .to) × All-to unordered (d .from) k r
+Inv-loop edges d r₀ k₀ r k = (d .from ≤ k) × (k ≤ d .to) × All-to edges (d .from) k r
 
 abbrev μ-loop : tie.MeasureT-loop
-μ-loop unordered d r₀ k₀ r k = d .to - k
+μ-loop edges d r₀ k₀ r k = d .to - k
 
 loop-holds : tie.Need-loop-holds Inv-loop μ-loop
-loop-holds c = (omega arith, omega arith, all-none (now (c .args .unordered)) (c .args .d .from))
+loop-holds c = (omega arith, omega arith, all-none (now (c .args .edges)) (c .args .d .from))
+
+add-r : tie.Need-add-r Inv-loop μ-loop
+add-r c = search needs
 
 element-copy-out-r : tie.Need-element-copy-out-r Inv-loop μ-loop
 element-copy-out-r c = search needs
@@ -29,7 +32,7 @@ loop-again : tie.Need-loop-again Inv-loop μ-loop
 loop-again c =
     let a = c .before .before .before .before .args in
     let l = c .before .before .before .loop in
-    (omega arith, omega arith, all-next (now (a .unordered)) (a .d .from) (l .k) (l .r) (l .inv .0) (l .inv .2))
+    (omega arith, omega arith, all-next (now (a .edges)) (a .d .from) (l .k) (l .r) (l .inv .0) (l .inv .2))
 
 returns : tie.Need-returns Inv-loop μ-loop
 returns c =
@@ -41,4 +44,13 @@ returns c =
 pub all-unordered-spec : {M : Type 1} → statement M
 all-unordered-spec =
     tie.close
-    (tie.spec Inv-loop μ-loop loop-holds element-copy-out-r add-k loop-less loop-again returns)
+    (tie.spec
+    Inv-loop
+    μ-loop
+    loop-holds
+    add-r
+    element-copy-out-r
+    add-k
+    loop-less
+    loop-again
+    returns)

@@ -31,8 +31,8 @@ returns c =
     let s = c .before .before .before .before .before .before .before in
     let a = s .args in
     let k = c .before .before .before .before .before .before .leaving-edge in
-    λ consumer slot run. around-is consumer slot (now (a .producer)) (now (a .unordered)) (a .edges) (a .n) (omega arith) (a .d) run (k .result) (k .ensures .0 consumer slot (now (a .unordered)))
-    (c .before .before .before .before .before .all-unordered .ensures) (c .before .before .before .before .is-unordered .ensures) (c .before .before .is-unordered2 .ensures) (c .before .is-unordered3 .ensures) (c .all-out-unordered .ensures consumer slot)
+    λ ends run. around-is ends (now (a .edges)) (a .len) (a .n) (omega arith) (a .d) run (k .result) (k .ensures .0 ends)
+    (c .before .before .before .before .before .all-unordered .ensures) (c .before .before .before .before .is-unordered .ensures) (c .before .before .is-unordered2 .ensures) (c .before .is-unordered3 .ensures) (c .all-out-unordered .ensures ends)
 
 pub around-step-spec : {M : Type 1} → statement M
 around-step-spec =

@@ -1,17 +1,20 @@
 use mathlib.Core.Path.{_≡_, refl}
-use denote.Ref.{now}
-use Prim.Native.Nat.{_-_}
+use Prim.Native.Nat.{_+_, _-_}
 use lib.ListN.{getD}
 use Rattle.node_rules.proofs.InEdges.{Through, through-none, through-next, ends-here, ends-last}
 use borrow.Author.Needs.{needs}
+use denote.Ref.{now}
 use Rattle.node_rules.proofs.around.in_edges_of.Statement.{statement}
 use Rattle.node_rules.proofs.around.in_edges_of.Tie as tie
 
 abbrev Inv-loop : tie.InvT-loop
-Inv-loop consumer in-edges edges n from to₀ to = (from ≡ getD in-edges n 0) × Through consumer edges n (getD in-edges n 0) to
+Inv-loop ends len n from to₀ to = (from ≡ getD ends (512 + n) 0) × Through ends len n (getD ends (512 + n) 0) to
 
 abbrev μ-loop : tie.MeasureT-loop
-μ-loop consumer in-edges edges n from to₀ to = edges - to
+μ-loop ends len n from to₀ to = len - to
+
+add-from : tie.Need-add-from Inv-loop μ-loop
+add-from c = search needs
 
 element-copy-out-from : tie.Need-element-copy-out-from Inv-loop μ-loop
 element-copy-out-from c = search needs
@@ -22,7 +25,7 @@ cast-from c = search needs
 loop-holds : tie.Need-loop-holds Inv-loop μ-loop
 loop-holds c =
     let s = c .before in
-    (refl, through-none (now (s .args .consumer)) (now (s .args .in-edges)) (s .args .edges) (s .args .n) (s .pre .2))
+    (refl, through-none (now (s .args .ends)) (s .args .len) (s .args .n) (s .pre .2))
 
 element-copy-out-if1 : tie.Need-element-copy-out-if1 Inv-loop μ-loop
 element-copy-out-if1 c = search needs
@@ -31,7 +34,7 @@ returns : tie.Need-returns Inv-loop μ-loop
 returns c =
     let s = c .before .before .before .before .before in
     let l = c .before .before .before .loop in
-    ends-here (now (s .args .consumer)) (now (s .args .in-edges)) (s .args .edges) (s .args .n) (s .pre .2) (l .to) (l .inv .1) (c .if1 .taken)
+    ends-here (now (s .args .ends)) (s .args .len) (s .args .n) (s .pre .2) (l .to) (l .inv .1) (c .if1 .taken)
 
 add-to : tie.Need-add-to Inv-loop μ-loop
 add-to c = search needs
@@ -43,12 +46,12 @@ loop-again : tie.Need-loop-again Inv-loop μ-loop
 loop-again c =
     let s = c .before .before .before .before .before in
     let l = c .before .before .before .loop in
-    (refl, through-next (now (s .args .consumer)) (now (s .args .in-edges)) (s .args .edges) (s .args .n) (s .pre .2) (l .to) (c .before .before .loop-test .taken) (c .if1 .left) (l .inv .1))
+    (refl, through-next (now (s .args .ends)) (s .args .len) (s .args .n) (s .pre .2) (l .to) (c .before .before .loop-test .taken) (c .if1 .left) (l .inv .1))
 
 returns-2 : tie.Need-returns-2 Inv-loop μ-loop
 returns-2 c =
     let s = c .before .before .before in
-    ends-last (now (s .args .consumer)) (now (s .args .in-edges)) (s .args .edges) (s .args .n) (s .pre .2) (c .before .loop .to) (c .before .loop .inv .1) (c .loop-test .left)
+    ends-last (now (s .args .ends)) (s .args .len) (s .args .n) (s .pre .2) (c .before .loop .to) (c .before .loop .inv .1) (c .loop-test .left)
 
 pub in-edges-of-spec : {M : Type 1} → statement M
 in-edges-of-spec =
@@ -56,6 +59,7 @@ in-edges-of-spec =
     (tie.spec
     Inv-loop
     μ-loop
+    add-from
     element-copy-out-from
     cast-from
     loop-holds

@@ -1,6 +1,5 @@
 use denote.Ref.{now}
 use native.Mathlib.Omega.{arith}
-use mathlib.Core.Bool.{Bool}
 use mathlib.Core.List.{List}
 use Prim.Native.Nat.{ℕ, _-_, _≤_, _<_}
 use Rattle.node_rules.proofs.OutEdges.{Leaves-from, leaves-start, leaves-here, leaves-later, none-leaves}
@@ -9,16 +8,16 @@ use Rattle.node_rules.proofs.around.leaving_edge.Statement.{statement}
 use Rattle.node_rules.proofs.around.leaving_edge.Tie as tie
 
 abbrev Inv-loop : tie.InvT-loop
-Inv-loop producer edges n k₀ k =
-    (k ≤ edges) × ((consumer slot : List ℕ) (unordered : List Bool) (small : n < 32) → Leaves-from consumer slot producer unordered edges n small k)
+Inv-loop edges len n k₀ k =
+    (k ≤ len) × ((ends : List ℕ) (small : n < 32) → Leaves-from ends edges len n small k)
 
 abbrev μ-loop : tie.MeasureT-loop
-μ-loop producer edges n k₀ k = edges - k
+μ-loop edges len n k₀ k = len - k
 
 loop-holds : tie.Need-loop-holds Inv-loop μ-loop
 loop-holds c =
     let a = c .args in
-    (omega arith, λ consumer slot unordered small. leaves-start consumer slot (now (a .producer)) unordered (a .edges) (a .n) small)
+    (omega arith, λ ends small. leaves-start ends (now (a .edges)) (a .len) (a .n) small)
 
 element-copy-out-if1 : tie.Need-element-copy-out-if1 Inv-loop μ-loop
 element-copy-out-if1 c = search needs
@@ -27,7 +26,7 @@ returns : tie.Need-returns Inv-loop μ-loop
 returns c =
     let s = c .before .before .before .before in
     let l = c .before .before .before .loop in (
-      (λ consumer slot unordered. leaves-here consumer slot (now (s .args .producer)) unordered (s .args .edges) (s .args .n) (s .pre .1) (l .k) (c .before .before .loop-test .taken) (c .if1 .taken) (l .inv .1 consumer slot unordered (s .pre .1))),
+      (λ ends. leaves-here ends (now (s .args .edges)) (s .args .len) (s .args .n) (s .pre .1) (l .k) (c .before .before .loop-test .taken) (c .if1 .taken) (l .inv .1 ends (s .pre .1))),
       l .inv .0,
     )
 
@@ -42,14 +41,14 @@ loop-again c =
     let s = c .before .before .before .before in
     let l = c .before .before .before .loop in (
       omega arith,
-      λ consumer slot unordered small. leaves-later consumer slot (now (s .args .producer)) unordered (s .args .edges) (s .args .n) small (l .k) (c .before .before .loop-test .taken) (c .if1 .left) (l .inv .1 consumer slot unordered small),
+      λ ends small. leaves-later ends (now (s .args .edges)) (s .args .len) (s .args .n) small (l .k) (c .before .before .loop-test .taken) (c .if1 .left) (l .inv .1 ends small),
     )
 
 returns-2 : tie.Need-returns-2 Inv-loop μ-loop
 returns-2 c =
     let s = c .before .before in
     let l = c .before .loop in (
-      (λ consumer slot unordered. none-leaves consumer slot (now (s .args .producer)) unordered (s .args .edges) (s .args .n) (s .pre .1) (l .k) (omega (arith, l .inv .0, c .loop-test .left)) (l .inv .1 consumer slot unordered (s .pre .1))),
+      (λ ends. none-leaves ends (now (s .args .edges)) (s .args .len) (s .args .n) (s .pre .1) (l .k) (omega (arith, l .inv .0, c .loop-test .left)) (l .inv .1 ends (s .pre .1))),
       l .inv .0,
     )
 

@@ -17,10 +17,11 @@ loosen-out-requires c κs = search needs
 
 returns : tie.Need-returns
 returns c =
-    let a = c .before .before .before .before .args in
+    let s = c .before .before .before .before in
+    let a = s .args in
     let ins = c .before .before .loosen-in .ensures in
     let outs = c .loosen-out .ensures in (
-      (λ consumer run. outs .0 consumer (now (a .slot)) ∙ ap (map (loosened (a .n) (outs-of (a .l .out)))) (ins .0 consumer (now (a .producer)) (a .edges) (a .n) run) ∙ both-loosened (a .n) (a .l) (stored-edges consumer (now (a .slot)) (now (a .producer)) (now (a .unordered)) (a .edges))),
+      outs .0 (now (a .ends)) ∙ ap (map (loosened (a .n) (outs-of (a .l .out)))) (ins .0 (a .len) (a .n) (s .pre .0) (s .pre .3)) ∙ both-loosened (a .n) (a .l) (stored-edges (now (a .ends)) (now (a .edges)) (a .len)),
       outs .1,
     )
 

@@ -3,34 +3,27 @@ use borrow.Author.Needs.{needs}
 use Rattle.node_rules.proofs.rules.distinct_rule.Statement.{statement}
 use Rattle.node_rules.proofs.rules.distinct_rule.Tie as tie
 
--- src/rules.rt:117:9
 of-number-requires : tie.Need-of-number-requires
 of-number-requires c κs = search needs
 
--- src/rules.rt:118:9
 first-or-last-requires : tie.Need-first-or-last-requires
 first-or-last-requires c κs = search needs
 
--- src/rules.rt:121:9
 any-if-requires : tie.Need-any-if-requires
 any-if-requires c κs = search needs
 
--- src/rules.rt:124:12
-off-if-requires : tie.Need-off-if-requires
-off-if-requires c κs = search needs
+pick-byte-requires : tie.Need-pick-byte-requires
+pick-byte-requires c κs = search needs
 
--- src/rules.rt:126:12
 number-requires : tie.Need-number-requires
 number-requires c κs = search needs
 
--- src/rules.rt:129:5
 ruled-requires : tie.Need-ruled-requires
 ruled-requires c κs = search needs
 
--- src/rules.rt:113:1
 returns : tie.Need-returns
 unfolding arm
-returns c = rw (c .ruled .ensures, c .before .number .ensures, c .before .before .off-if .ensures, c .before .before .before .any-if .ensures, c .before .before .before .before .before .before .before .before .first-or-last .ensures, c .before .before .before .before .before .before .before .before .before .of-number .ensures)
+returns c = rw (c .ruled .ensures, c .before .number .ensures, c .before .before .pick-byte .ensures, c .before .before .before .any-if .ensures, c .before .before .before .before .before .before .before .before .first-or-last .ensures, c .before .before .before .before .before .before .before .before .before .of-number .ensures)
 
 pub distinct-rule-spec : {M : Type 1} → statement M
 distinct-rule-spec =
@@ -39,7 +32,7 @@ distinct-rule-spec =
     of-number-requires
     first-or-last-requires
     any-if-requires
-    off-if-requires
+    pick-byte-requires
     number-requires
     ruled-requires
     returns)

@@ -1,35 +1,31 @@
-use mathlib.Core.Path.{refl}
-use lib.ListN.{length-set}
-use denote.Ref.{now}
-use native.Mathlib.Omega.{arith}
 use mathlib.Core.Path.{_≡_}
-use mathlib.Core.Bool.{true, false}
-use Prim.Native.Nat.{_-_, _≤_}
-use lib.ListN.{length}
-use Rattle.node_rules.proofs.EdgeLaws.{Changed, none-changed, one-changed}
-use Rattle.node_rules.proofs.EdgeChanges.{ins-cut-off}
+use mathlib.Core.List.{List}
+use Prim.Native.Nat.{ℕ, _-_, _≤_}
+use lib.ListN.{length, length-set}
+use Rattle.node_rules.proofs.EdgeChanges.{Changed, none-changed, in-cut-off, next-cut-off, ins-cut-off}
 use borrow.Author.Needs.{needs}
+use native.Mathlib.Omega.{arith}
+use denote.Ref.{now}
 use Rattle.node_rules.proofs.unlink.cut_off.Statement.{statement}
 use Rattle.node_rules.proofs.unlink.cut_off.Tie as tie
 
 abbrev Inv-loop : tie.InvT-loop
-Inv-loop producer₀ unordered₀ d k₀ producer unordered k =
-    (d .from ≤ k) × (k ≤ d .to) × (length producer ≡ 256) × (length unordered ≡ 256)
-    × Changed 0 (λ _. 255) producer₀ producer (d .from) k × Changed false (λ _. true) unordered₀ unordered (d .from) k
+Inv-loop edges₀ d k₀ edges k = (d .from ≤ k) × (k ≤ d .to) × (length edges ≡ 512) × ((ends : List ℕ) → Changed in-cut-off ends edges₀ edges (d .from) k)
 
 abbrev μ-loop : tie.MeasureT-loop
-μ-loop producer₀ unordered₀ d k₀ producer unordered k = d .to - k
+μ-loop edges₀ d k₀ edges k = d .to - k
 
 loop-holds : tie.Need-loop-holds Inv-loop μ-loop
-loop-holds c =
-    let a = c .args in
-    (omega arith, omega arith, c .pre .2, c .pre .3, none-changed 0 _ (now (a .producer)) (a .d .from), none-changed false _ (now (a .unordered)) (a .d .from))
+loop-holds c = (omega arith, omega arith, c .pre .2, λ ends. none-changed _ ends (now (c .args .edges)) (c .args .d .from))
 
-element-write-producer : tie.Need-element-write-producer Inv-loop μ-loop
-element-write-producer c = search needs
+element-write-edges : tie.Need-element-write-edges Inv-loop μ-loop
+element-write-edges c = search needs
 
-element-write-unordered : tie.Need-element-write-unordered Inv-loop μ-loop
-element-write-unordered c = search needs
+add-edges : tie.Need-add-edges Inv-loop μ-loop
+add-edges c = search needs
+
+element-write-edges-2 : tie.Need-element-write-edges-2 Inv-loop μ-loop
+element-write-edges-2 c = search needs
 
 add-k : tie.Need-add-k Inv-loop μ-loop
 add-k c = search needs
@@ -44,18 +40,14 @@ loop-again c =
       omega arith,
       omega arith,
       simp length-set (omega arith),
-      simp length-set (omega arith),
-      one-changed 0 _ (now (a .producer)) (a .d .from) (l .producer) (l .k) _ (omega arith) (omega arith) refl (l .inv .4),
-      one-changed false _ (now (a .unordered)) (a .d .from) (l .unordered) (l .k) _ (omega arith) (omega arith) refl (l .inv .5),
+      λ ends. next-cut-off ends (now (a .edges)) (a .d .from) (l .edges) (l .k) (omega arith) (omega arith) (l .inv .2) (l .inv .3 ends),
     )
 
 returns : tie.Need-returns Inv-loop μ-loop
 returns c =
     let a = c .before .before .before .args in
-    let l = c .before .before .loop in (
-      (λ consumer slot edges n run. ins-cut-off consumer slot (now (a .producer)) (l .producer) edges n (now (a .unordered)) (l .unordered) (a .d) (l .k) (omega arith) (omega arith) run (l .inv .4) (l .inv .5)),
-      (l .inv .2, l .inv .3),
-    )
+    let l = c .before .before .loop in
+    ((λ ends len n few run. ins-cut-off ends (now (a .edges)) (l .edges) len n few (a .d) run (l .k) (c .if1 .left) (l .inv .1) (l .inv .3 ends)), l .inv .2)
 
 pub cut-off-spec : {M : Type 1} → statement M
 cut-off-spec =
@@ -64,8 +56,9 @@ cut-off-spec =
     Inv-loop
     μ-loop
     loop-holds
-    element-write-producer
-    element-write-unordered
+    element-write-edges
+    add-edges
+    element-write-edges-2
     add-k
     loop-less
     loop-again

@@ -10,12 +10,12 @@ element-copy-out-result c = search needs
 returns : tie.Need-returns
 returns c =
     let a = c .before .before .before .args in
-    λ consumer slot unordered edges n run. first-in consumer slot (now (a .producer)) unordered edges n (a .d) run (c .before .if1 .taken)
+    λ ends len n run. first-in ends (now (a .edges)) len n (a .d) run (c .before .if1 .taken)
 
 returns-2 : tie.Need-returns-2
 returns-2 c =
     let a = c .before .before .args in
-    λ consumer slot unordered edges n run. no-first-in consumer slot (now (a .producer)) unordered edges n (a .d) run (c .if1 .left)
+    λ ends len n run. no-first-in ends (now (a .edges)) len n (a .d) run (c .if1 .left)
 
 pub producer-into-spec : {M : Type 1} → statement M
 producer-into-spec = tie.close (tie.spec element-copy-out-result returns returns-2)

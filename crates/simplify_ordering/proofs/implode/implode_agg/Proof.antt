@@ -9,34 +9,27 @@ use borrow.Author.Needs.{needs}
 use Rattle.simplify_ordering.proofs.implode.implode_agg.Statement.{statement}
 use Rattle.simplify_ordering.proofs.implode.implode_agg.Tie as tie
 
--- src/implode.rt:66:8
 is-scalar-ae-requires : tie.Need-is-scalar-ae-requires
 is-scalar-ae-requires c κs = search needs
 
--- src/implode.rt:67:9
 returns : tie.Need-returns
 returns c =
     let st = stays (c .before .before .before .before .before .args .q) (arena-of (now (c .before .before .before .before .before .args .recs)) (now (c .before .before .before .before .before .args .line)) (now (c .before .before .before .before .before .args .off)) (c .before .before .before .before .before .args .n)) (c .before .is-scalar-ae .result) (c .before .is-scalar-ae .ensures) (c .before .before .before .before .before .args .i) (c .before .before .before .before .before .args .k) (stored-steps (now (c .before .before .before .before .before .args .steps)) (c .before .before .before .before .before .args .n-steps)) (c .if1 .taken) (c .before .before .before .before .before .pre .1 .1 .0) in
     (st .0, (st .1, (c .before .before .before .before .before .pre .1 .0 .0, c .before .before .before .before .before .pre .0 .0)))
 
--- src/implode.rt:69:5
 append-implode-requires : tie.Need-append-implode-requires
 append-implode-requires c κs =
     (c .before .before .before .before .before .before .before .before .pre .1 .0 .0, (omega (arith, has-room (c .before .before .before .before .before .before .before .before .args .q) (arena-of (now (c .before .before .before .before .before .before .before .before .args .recs)) (now (c .before .before .before .before .before .before .before .before .args .line)) (now (c .before .before .before .before .before .before .before .before .args .off)) (c .before .before .before .before .before .before .before .before .args .n)) (c .before .before .before .before .is-scalar-ae .result) (c .before .before .before .before .is-scalar-ae .ensures) (c .before .before .before .before .before .before .before .before .args .i) (c .before .before .before .before .before .before .before .before .args .k) (stored-steps (now (c .before .before .before .before .before .before .before .before .args .steps)) (c .before .before .before .before .before .before .before .before .args .n-steps)) (c .before .before .before .if1 .left) (c .before .before .before .before .before .before .before .before .pre .1 .1 .1), length-arena (now (c .before .before .before .before .before .before .before .before .args .recs)) (now (c .before .before .before .before .before .before .before .before .args .line)) (now (c .before .before .before .before .before .before .before .before .args .off)) (c .before .before .before .before .before .before .before .before .args .n)), c .before .before .before .before .before .before .before .before .pre .1 .0 .1))
 
--- src/implode.rt:70:37
 cast-store-agg : tie.Need-cast-store-agg
 cast-store-agg c = search needs
 
--- src/implode.rt:70:5
 store-agg-requires : tie.Need-store-agg-requires
 store-agg-requires c κs = search needs
 
--- src/implode.rt:71:5
 add-result : tie.Need-add-result
 add-result c = search needs
 
--- src/implode.rt:47:1
 returns-2 : tie.Need-returns-2
 returns-2 c =
     let st = appended (c .before .before .before .before .before .before .before .before .before .before .before .args .q) (arena-of (now (c .before .before .before .before .before .before .before .before .before .before .before .args .recs)) (now (c .before .before .before .before .before .before .before .before .before .before .before .args .line)) (now (c .before .before .before .before .before .before .before .before .before .before .before .args .off)) (c .before .before .before .before .before .before .before .before .before .before .before .args .n)) (c .before .before .before .before .before .before .before .is-scalar-ae .result) (c .before .before .before .before .before .before .before .is-scalar-ae .ensures) (c .before .before .before .before .before .before .before .before .before .before .before .args .i) (c .before .before .before .before .before .before .before .before .before .before .before .args .k) (stored-steps (now (c .before .before .before .before .before .before .before .before .before .before .before .args .steps)) (c .before .before .before .before .before .before .before .before .before .before .before .args .n-steps)) (c .before .before .before .before .before .before .if1 .left) (c .before .before .append-implode .ensures .0) (c .store-agg .ensures .0 ∙ ap (λ m. with-agg (c .before .before .before .before .before .before .before .before .before .before .before .args .i) (c .before .before .before .before .before .before .before .before .before .before .before .args .k) m (stored-steps (now (c .before .before .before .before .before .before .before .before .before .before .before .args .steps)) (c .before .before .before .before .before .before .before .before .before .before .before .args .n-steps))) (sym (length-arena (now (c .before .before .before .before .before .before .before .before .before .before .before .args .recs)) (now (c .before .before .before .before .before .before .before .before .before .before .before .args .line)) (now (c .before .before .before .before .before .before .before .before .before .before .before .args .off)) (c .before .before .before .before .before .before .before .before .before .before .before .args .n)))) in

@@ -5,27 +5,21 @@ use borrow.Author.Needs.{needs}
 use Rattle.simplify_ordering.proofs.implode.is_scalar_ae.Statement.{statement}
 use Rattle.simplify_ordering.proofs.implode.is_scalar_ae.Tie as tie
 
--- src/implode.rt:18:13
 element-copy-out-l : tie.Need-element-copy-out-l
 element-copy-out-l c = search needs
 
--- src/implode.rt:18:13
 cast-l : tie.Need-cast-l
 cast-l c = omega (arith, base-below (now (c .before .args .recs)) (now (c .before .args .line)) (now (c .before .args .off)) (c .before .args .n) (c .before .args .q) (c .before .pre .0) (c .before .pre .1))
 
--- src/implode.rt:19:10
 mul-result : tie.Need-mul-result
 mul-result c = omega (arith, base-below (now (c .before .args .recs)) (now (c .before .args .line)) (now (c .before .args .off)) (c .before .args .n) (c .before .args .q) (c .before .pre .0) (c .before .pre .1))
 
--- src/implode.rt:19:10
 add-result : tie.Need-add-result
 add-result c = omega (arith, base-below (now (c .before .args .recs)) (now (c .before .args .line)) (now (c .before .args .off)) (c .before .args .n) (c .before .args .q) (c .before .pre .0) (c .before .pre .1))
 
--- src/implode.rt:19:5
 element-copy-out-result : tie.Need-element-copy-out-result
 element-copy-out-result c = omega (arith, base-below (now (c .before .args .recs)) (now (c .before .args .line)) (now (c .before .args .off)) (c .before .args .n) (c .before .args .q) (c .before .pre .0) (c .before .pre .1))
 
--- src/implode.rt:14:1
 returns : tie.Need-returns
 returns c = scalar-law (now (c .before .before .args .recs)) (now (c .before .before .args .line)) (now (c .before .before .args .off)) (c .before .before .args .n) (c .before .before .args .q) (c .before .before .pre .0) (c .before .before .pre .1)
 

@@ -13,25 +13,20 @@ use borrow.Author.Needs.{needs}
 use Rattle.simplify_ordering.proofs.looks.looks_of.Statement.{statement}
 use Rattle.simplify_ordering.proofs.looks.looks_of.Tie as tie
 
--- src/looks.rt:116:9
 with-implodes-requires : tie.Need-with-implodes-requires
 with-implodes-requires c κs =
     let a = c .before .before .before .before .args in
     (c .before .before .before .before .pre .0, ((c .before .before .before .before .pre .1 .0 .0, ap (λ (o : Options). o .kind) (c .before .before .before .before .pre .1 .0 .1)), (c .before .before .before .before .pre .1 .1 .0, start-room (step-at (stored-steps (now (a .steps)) (a .n-steps)) (a .i)) (a .e) (arena-of (now (a .recs)) (now (a .line)) (now (a .off)) (a .n)) (a .tally) (c .before .before .before .before .pre .1 .1 .1))))
 
--- src/looks.rt:117:9
 exprs-of-requires : tie.Need-exprs-of-requires
 exprs-of-requires c κs = search needs
 
--- src/looks.rt:118:9
 aggs-of-requires : tie.Need-aggs-of-requires
 aggs-of-requires c κs = search needs
 
--- src/looks.rt:119:9
 allow-deordering-top-requires : tie.Need-allow-deordering-top-requires
 allow-deordering-top-requires c κs = search needs
 
--- src/looks.rt:120:5
 look-at-lists-requires : tie.Need-look-at-lists-requires
 look-at-lists-requires c κs =
     let a = c .before .before .before .before .before .before .before .before .before .before .before .before .before .args in
@@ -39,7 +34,6 @@ look-at-lists-requires c κs =
     let here : a .i < length (stored-steps (now (a .steps)) (a .n-steps)) = omega (arith, c .before .before .before .before .before .before .before .before .before .before .before .before .before .pre .0 .1, length-steps (now (a .steps)) (a .n-steps)) in
     lists-asked (stored-steps (now (a .steps)) (a .n-steps)) (a .i) (a .n-steps) (a .e) (arena-of (now (a .recs)) (now (a .line)) (now (a .off)) (a .n)) (a .tally) _ _ _ _ (w .result) here (c .before .before .before .before .before .before .before .before .before .before .before .before .before .pre .1 .1 .1) (w .ensures .0) (w .ensures .1 .0) (w .ensures .1 .1 .0) (w .ensures .1 .1 .1) (c .before .before .before .before .before .before .exprs-of .result) (c .before .before .before .before .aggs-of .result) (c .before .before .before .before .before .before .exprs-of .ensures) (c .before .before .before .before .aggs-of .ensures) (c .before .before .before .allow-deordering-top .result) (c .before .before .before .allow-deordering-top .ensures ∙ ap (λ (o : Options). allow-deordering-top o (a .e)) (c .before .before .before .before .before .before .before .before .before .before .before .before .before .pre .1 .0 .1))
 
--- src/looks.rt:96:1
 returns : tie.Need-returns
 returns c =
     let a = c .before .before .before .before .before .before .before .before .before .before .before .before .before .before .args in

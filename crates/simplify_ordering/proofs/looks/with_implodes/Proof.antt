@@ -8,25 +8,21 @@ use borrow.Author.Needs.{needs}
 use Rattle.simplify_ordering.proofs.looks.with_implodes.Statement.{statement}
 use Rattle.simplify_ordering.proofs.looks.with_implodes.Tie as tie
 
--- src/looks.rt:89:8
 number-requires : tie.Need-number-requires
 number-requires c κs = search needs
 
--- src/looks.rt:90:9
 append-implodes-requires : tie.Need-append-implodes-requires
 append-implodes-requires c κs =
     let a = c .before .before .before .before .before .before .args in
     let g = grouped (step-at (stored-steps (now (a .steps)) (a .n-steps)) (a .i)) (arena-of (now (a .recs)) (now (a .line)) (now (a .off)) (a .n)) (c .before .before .before .before .before .number .result) (c .before .before .before .before .before .number .ensures ∙ ap ir-number (c .before .before .before .before .before .before .pre .1 .0 .1)) (c .before .before .before .before .if1 .taken) in
     (c .before .before .before .before .before .before .pre .0, (c .before .before .before .before .before .before .pre .1 .0 .0, (c .before .before .before .before .before .before .pre .1 .1 .0, rw g at (c .before .before .before .before .before .before .pre .1 .1 .1))))
 
--- src/looks.rt:90:9
 returns : tie.Need-returns
 returns c =
     let a = c .before .before .before .before .before .before .before .args in
     let g = grouped (step-at (stored-steps (now (a .steps)) (a .n-steps)) (a .i)) (arena-of (now (a .recs)) (now (a .line)) (now (a .off)) (a .n)) (c .before .before .before .before .before .before .number .result) (c .before .before .before .before .before .before .number .ensures ∙ ap ir-number (c .before .before .before .before .before .before .before .pre .1 .0 .1)) (c .before .before .before .before .before .if1 .taken) in
     rw g (c .append-implodes .ensures)
 
--- src/looks.rt:71:1
 returns-2 : tie.Need-returns-2
 returns-2 c =
     let a = c .before .before .args in

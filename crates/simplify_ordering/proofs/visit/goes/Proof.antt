@@ -2,11 +2,9 @@ use borrow.Author.Needs.{needs}
 use Rattle.simplify_ordering.proofs.visit.goes.Statement.{statement}
 use Rattle.simplify_ordering.proofs.visit.goes.Tie as tie
 
--- src/visit.rt:126:6
 number-requires : tie.Need-number-requires
 number-requires c κs = search needs
 
--- src/visit.rt:122:1
 returns : tie.Need-returns
 returns c = rw (c .before .before .number .ensures)
 

@@ -27,7 +27,7 @@ enum-known-visited c = search needs
 
 returns : tie.Need-returns
 returns c =
-    (λ before after h. settled (λ b d. rw (c .before .enum-told .given .1) at (h .outcome b d)) refl (omega (arith, c .before .before .before .before .pre .0)) refl refl, (refl, refl))
+    (λ before after h. settled (λ b d. rw (c .before .enum-told .given .1) at (h .outcome b d)) refl (omega (arith, c .before .before .before .before .pre .place)) refl refl, (refl, refl))
 
 returns-2 : tie.Need-returns-2
 returns-2 c =

@@ -19,21 +19,23 @@ returns c =
 
 walk-back-requires : tie.Need-walk-back-requires
 walk-back-requires c κs =
-    let s = c .before .before .before .before .before .before .before .before .before .before .before .before .before .before .before .before .before in
-    let left = c .before .before .before .before .before .before .before .if1 .left in
-    let e = c .before .before .before .before .before .before .before .before .before .walk-down .ensures in
-    (e .1 .0, (up-asks _ _ _ _ (e .0) (s .pre .formed) (λ b d. refl) left, (e .1 .1 .0, e .1 .1 .1, e .1 .1 .2, s .pre .rows)))
+    let ask = c .before .before .before .before .before .before .before .before .before .before .before .before .before .before .before .before .pre in
+    let (gives, (held, back)) = c .before .before .before .before .before .before .before .before .walk-down .ensures in
+    ((held, ask .rows), (up-asks _ _ _ _ gives (ask .formed) (λ b d. refl) (c .before .before .before .before .before .before .if1 .left), back))
 
 orderings-of-requires : tie.Need-orderings-of-requires
 orderings-of-requires c κs = search needs
 
 returns-2 : tie.Need-returns-2
 returns-2 c =
-    let s = c .before .before .before .before .before .before .before .before .before .before .before .before .before .before .before .before .before .before .before in
-    let left = c .before .before .before .before .before .before .before .before .before .if1 .left in
-    let e = c .before .before .before .before .before .before .before .before .before .before .before .walk-down .ensures in
+    let formed = c .before .before .before .before .before .before .before .before .before .before .before .before .before .before .before .before .before .before .pre .formed in
+    let left = c .before .before .before .before .before .before .before .before .if1 .left in
+    let down = c .before .before .before .before .before .before .before .before .before .before .walk-down .ensures .0 in
     let up = c .before .walk-back in
-    (answered _ _ _ _ (e .0) (s .pre .formed) (λ b d. refl) left _ (up .result) _ (up .ensures .0 .1) (c .orderings-of .ensures), answer-held _ _ _ _ (e .0) (s .pre .formed) (λ b d. refl) left _ (up .result) _ (up .ensures .0 .1) _ (up .ensures .1) (c .orderings-of .ensures))
+    let answers = c .orderings-of .ensures in (
+      answered _ _ _ _ down formed (λ b d. refl) left _ (up .result) _ (up .ensures .0 .1) answers,
+      answer-held _ _ _ _ down formed (λ b d. refl) left _ (up .result) _ (up .ensures .0 .1) _ (up .ensures .1) answers,
+    )
 
 pub simplify-and-fetch-orderings-spec : {M : Type 1} → statement M
 simplify-and-fetch-orderings-spec =

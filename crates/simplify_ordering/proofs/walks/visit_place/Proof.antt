@@ -4,8 +4,8 @@ use Rattle.simplify_ordering.proofs.walks.visit_place.Tie as tie
 
 simplify-ir-node-orders-requires : tie.Need-simplify-ir-node-orders-requires
 simplify-ir-node-orders-requires c κs =
-    let p = c .before .before .before .before .before .before .pre in
-    (p .0, (p .1 .0, p .1 .1 .4))
+    let p = c .before .before .before .before .before .pre in
+    (p .0, p .1 .0)
 
 place-requires : tie.Need-place-requires
 place-requires c κs = search needs

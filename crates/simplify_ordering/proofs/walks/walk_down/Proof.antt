@@ -1,37 +1,37 @@
-use Rattle.simplify_ordering.proofs.FetchLaws.{begins, all-places, down-asks, down-given}
-use Rattle.simplify_ordering.specs.Walks.{sheet-of}
-use Rattle.simplify_ordering.specs.Run.{run-of}
-use Rattle.plan.specs.Visit.{Run}
-use Prim.Native.Nat.{ℕ}
-use mathlib.Core.List.{List}
 use mathlib.Core.Path.{refl}
+use mathlib.Core.List.{List}
+use Prim.Native.Nat.{ℕ}
 use native.Mathlib.Omega.{arith}
 use denote.Ref.{now}
-use borrow.Author.Needs.{needs}
+use Rattle.plan.specs.Visit.{Run}
+use Rattle.simplify_ordering.specs.Run.{run-of}
+use Rattle.simplify_ordering.proofs.FetchLaws.{begins, down-asks, down-given}
 use Rattle.simplify_ordering.proofs.walks.walk_down.Statement.{statement}
 use Rattle.simplify_ordering.proofs.walks.walk_down.Tie as tie
 
-size-288-requires : tie.Need-size-288-requires
-size-288-requires c κs = search needs
+-- the run as the walk sets out
+abbrev before : tie.Start → List ℕ → List ℕ → Run
+before s b d =
+    let a = s .args in
+    run-of (now (a .recs)) (now (a .line)) (now (a .off)) (a .exprs) (now (a .steps)) (now (a .ends)) (now (a .edges)) (a .size) b d (record { visits = 0; looks = 0 })
 
 walk-requires : tie.Need-walk-requires
 walk-requires c κs =
-    let s = c .before .before .before .before .before .before .before .before in
-    let a = s .args in
-    let ask = s .pre .0 in
-    let sh = sheet-of (now (a .recs)) (now (a .line)) (now (a .off)) (a .exprs) (now (a .steps)) (a .n-steps) in
-    let before : List ℕ → List ℕ → Run = λ b d. run-of (now (a .recs)) (now (a .line)) (now (a .off)) (a .exprs) (now (a .steps)) (a .n-steps) (now (a .consumer)) (now (a .slot)) (now (a .producer)) (now (a .unordered)) (a .edges) b d (record { visits = 0; looks = 0 }) in
-    (ask .held, (down-asks sh (ask .formed) before (begins ask) _ (all-places ask), (omega arith, ask .few, c .before .before .before .before .before .before .before .size-288 .ensures, s .pre .1, refl, refl, omega arith, ask .rows)))
+    let s = c .before .before .before .before .before .before .before in
+    let (ask, room) = s .pre in (
+      (ask .held, ask .rows),
+      (
+        down-asks _ (ask .formed) (before s) (begins ask) _ (ask .places-are),
+        record { few = ask .few; room = room; going = refl; none-stored = refl; few-removed = omega arith },
+      ),
+    )
 
 returns : tie.Need-returns
 returns c =
-    let s = c .before .before .before .before .before .before .before .before .before in
-    let a = s .args in
+    let s = c .before .before .before .before .before .before .before .before in
     let ask = s .pre .0 in
-    let sh = sheet-of (now (a .recs)) (now (a .line)) (now (a .off)) (a .exprs) (now (a .steps)) (a .n-steps) in
-    let before : List ℕ → List ℕ → Run = λ b d. run-of (now (a .recs)) (now (a .line)) (now (a .off)) (a .exprs) (now (a .steps)) (a .n-steps) (now (a .consumer)) (now (a .slot)) (now (a .producer)) (now (a .unordered)) (a .edges) b d (record { visits = 0; looks = 0 }) in
-    let e = c .walk .ensures in
-    (down-given sh (ask .formed) before (begins ask) _ (all-places ask) _ _ (c .walk .result) _ (e .0) refl, (e .1 .0, (e .1 .1 .0, e .1 .1 .1, omega (arith, e .1 .1 .2, ask .few))))
+    let (gives, (held, back)) = c .walk .ensures in
+    (down-given _ (ask .formed) (before s) (begins ask) _ (ask .places-are) _ _ (c .walk .result) _ gives refl, (held, record { room = back .room; few = back .few; few-removed = omega (arith, back .few-removed, ask .few) }))
 
 pub walk-down-spec : {M : Type 1} → statement M
-walk-down-spec = tie.close (tie.spec size-288-requires walk-requires returns)
+walk-down-spec = tie.close (tie.spec walk-requires returns)

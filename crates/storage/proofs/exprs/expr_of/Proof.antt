@@ -6,14 +6,14 @@ use Rattle.storage.proofs.exprs.expr_of.Tie as tie
 mul-b : tie.Need-mul-b
 mul-b c = search needs
 
-add-unless : tie.Need-add-unless
-add-unless c = search needs
+add-pick-byte : tie.Need-add-pick-byte
+add-pick-byte c = search needs
 
-element-copy-out-unless : tie.Need-element-copy-out-unless
-element-copy-out-unless c = search needs
+element-copy-out-pick-byte : tie.Need-element-copy-out-pick-byte
+element-copy-out-pick-byte c = search needs
 
-unless-requires : tie.Need-unless-requires
-unless-requires c κs = search needs
+pick-byte-requires : tie.Need-pick-byte-requires
+pick-byte-requires c κs = search needs
 
 element-copy-out-of-number : tie.Need-element-copy-out-of-number
 element-copy-out-of-number c = search needs
@@ -90,16 +90,16 @@ element-copy-out-t57 c = search needs
 returns : tie.Need-returns
 returns c =
     let s0 = c .before .before .before .before .before .before .before .before .before .before .before .before .before .before .before in
-    is-held _ _ (s0 .pre .1) (s0 .pre .2) _ _ _ (c .before .before .before .before .before .before .before .before .before .before .before .of-number .ensures) (c .before .before .before .before .before .before .before .before .before .before .before .before .before .unless .ensures)
+    is-held _ _ (s0 .pre .1) (s0 .pre .2) _ _ _ (c .before .before .before .before .before .before .before .before .before .before .before .of-number .ensures) (c .before .before .before .before .before .before .before .before .before .before .before .before .before .pick-byte .ensures)
 
 pub expr-of-spec : {M : Type 1} → statement M
 expr-of-spec =
     tie.close
     (tie.spec
     mul-b
-    add-unless
-    element-copy-out-unless
-    unless-requires
+    add-pick-byte
+    element-copy-out-pick-byte
+    pick-byte-requires
     element-copy-out-of-number
     of-number-requires
     add-t6

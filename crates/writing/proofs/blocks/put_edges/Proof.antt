@@ -1,7 +1,6 @@
 use mathlib.Core.Path.{_≡_}
-use mathlib.Core.List.{List}
 use denote.Ref.{now}
-use Prim.Native.Nat.{ℕ, _*_, _-_, _≤_}
+use Prim.Native.Nat.{_*_, _-_, _≤_}
 use native.Mathlib.Omega.{arith}
 use borrow.Author.Needs.{needs}
 use lib.ListN.{length}
@@ -10,22 +9,21 @@ use Rattle.plan.specs.Text.{edge-line}
 use Rattle.storage.specs.Stored.{table}
 use Rattle.storage.specs.Edges.{stored-edge, stored-edges}
 use Rattle.writing.specs.Wrote.{Wrote}
-use Rattle.writing.proofs.EdgeLine.{edge-wrote}
 use Rattle.writing.proofs.Over.{no-entry, next-entry, all-entries}
 use Rattle.writing.proofs.blocks.put_edges.Statement.{statement}
 use Rattle.writing.proofs.blocks.put_edges.Tie as tie
 
 abbrev Inv-loop : tie.InvT-loop
-Inv-loop out₀ consumer slot unordered n len₀ i₀ out len i =
-    (i ≤ n) × (len ≤ 14 * i) × (length out ≡ length out₀) × ((producer : List ℕ) → Wrote (concat-map edge-line (table (stored-edge consumer slot producer unordered) 0 i)) out₀ out len)
+Inv-loop out₀ ends edges n len₀ i₀ out len i =
+    (i ≤ n) × (len ≤ 14 * i) × (length out ≡ length out₀) × Wrote (concat-map edge-line (table (stored-edge ends edges) 0 i)) out₀ out len
 
 abbrev μ-loop : tie.MeasureT-loop
-μ-loop out₀ consumer slot unordered n len₀ i₀ out len i = n - i
+μ-loop out₀ ends edges n len₀ i₀ out len i = n - i
 
 loop-holds : tie.Need-loop-holds Inv-loop μ-loop
 loop-holds c =
     let a = c .before .args in
-    (omega arith, omega arith, omega arith, λ producer. no-entry edge-line (stored-edge (now (a .consumer)) (now (a .slot)) producer (now (a .unordered))) _)
+    (omega arith, omega arith, omega arith, no-entry edge-line (stored-edge (now (a .ends)) (now (a .edges))) _)
 
 sub-put-edge : tie.Need-sub-put-edge Inv-loop μ-loop
 sub-put-edge c = search needs
@@ -39,8 +37,14 @@ part-put-edge-end c = search needs
 element-copy-out-put-edge : tie.Need-element-copy-out-put-edge Inv-loop μ-loop
 element-copy-out-put-edge c = search needs
 
+add-put-edge : tie.Need-add-put-edge Inv-loop μ-loop
+add-put-edge c = search needs
+
 element-copy-out-put-edge-2 : tie.Need-element-copy-out-put-edge-2 Inv-loop μ-loop
 element-copy-out-put-edge-2 c = search needs
+
+add-put-edge-2 : tie.Need-add-put-edge-2 Inv-loop μ-loop
+add-put-edge-2 c = search needs
 
 element-copy-out-put-edge-3 : tie.Need-element-copy-out-put-edge-3 Inv-loop μ-loop
 element-copy-out-put-edge-3 c = search needs
@@ -58,14 +62,14 @@ loop-less : tie.Need-loop-less Inv-loop μ-loop
 loop-less c = search needs
 
 loop-again : tie.Need-loop-again Inv-loop μ-loop
+unfolding edge-line stored-edge
 loop-again c =
     let a = c .before .before .before .before .before .before .before .before .before .before .args in
     let l = c .before .before .before .before .before .before .before .before .loop in (
       omega arith,
       omega arith,
       search needs,
-      λ producer. next-entry edge-line (stored-edge (now (a .consumer)) (now (a .slot)) producer (now (a .unordered))) (l .i) _ _ _ _ _ (l .inv .3 producer)
-          (edge-wrote (now (a .consumer)) (now (a .slot)) producer (now (a .unordered)) _ _ _ _ (c .before .before .put-edge .ensures .0)),
+      next-entry edge-line (stored-edge (now (a .ends)) (now (a .edges))) (l .i) _ _ _ _ _ (l .inv .3) (c .before .before .put-edge .ensures .0),
     )
 
 same-length : tie.Need-same-length Inv-loop μ-loop
@@ -76,7 +80,7 @@ unfolding stored-edges
 returns c =
     let a = c .before .before .before .args in
     let l = c .before .loop in
-    ((λ producer. all-entries edge-line (stored-edge (now (a .consumer)) (now (a .slot)) producer (now (a .unordered))) (a .n) (l .i) _ _ _ (omega arith) (l .inv .3 producer)), omega arith)
+    (all-entries edge-line (stored-edge (now (a .ends)) (now (a .edges))) (a .n) (l .i) _ _ _ (omega arith) (l .inv .3), omega arith)
 
 pub put-edges-spec : {M : Type 1} → statement M
 put-edges-spec =
@@ -89,7 +93,9 @@ put-edges-spec =
     part-put-edge-start
     part-put-edge-end
     element-copy-out-put-edge
+    add-put-edge
     element-copy-out-put-edge-2
+    add-put-edge-2
     element-copy-out-put-edge-3
     put-edge-requires
     add-len

@@ -58,13 +58,10 @@ same-length c = search needs
 returns : tie.Need-returns
 returns c =
     let w₁ = c .before .before .before .before .before .before .before .before .before .before .before .before .before .before .put-exprs .ensures .0 in
-    let w₂ = then _ _ _ _ _ _ _ w₁ (c .before .before .before .before .before .before .before .before .before .before .put-steps .ensures .0) in (
-      (λ producer.
-          let w₃ = then _ _ _ _ _ _ _ w₂ (c .before .before .before .before .before .before .put-edges .ensures .0 producer) in
-          let w₄ = then _ _ _ _ _ _ _ w₃ (c .before .before .put-tally .ensures .0) in
-          record { bytes = w₄ .bytes; exprs = w₁ .len; steps = w₂ .len; edges = w₃ .len; all = w₄ .len }),
-      (refl, refl, refl),
-    )
+    let w₂ = then _ _ _ _ _ _ _ w₁ (c .before .before .before .before .before .before .before .before .before .before .put-steps .ensures .0) in
+    let w₃ = then _ _ _ _ _ _ _ w₂ (c .before .before .before .before .before .before .put-edges .ensures .0) in
+    let w₄ = then _ _ _ _ _ _ _ w₃ (c .before .before .put-tally .ensures .0) in
+    (record { bytes = w₄ .bytes; exprs = w₁ .len; steps = w₂ .len; edges = w₃ .len; all = w₄ .len }, (refl, refl, refl))
 
 pub put-finished-spec : {M : Type 1} → statement M
 put-finished-spec =
