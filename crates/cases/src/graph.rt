@@ -7,6 +7,8 @@ ghost use Rattle.claims.specs.Plan.{Plan};
 use crate::frame::two;
 use ir_graph::ir_graph::build_ir_traversal_graph;
 use reading::read_plan;
+use storage::edges::consumer_of;
+use storage::edges::slot_of;
 
 // Are the entries of b the first of a?
 fn begins(a: &[u8; 288], b: &[u8]) -> bool
@@ -28,10 +30,10 @@ fn pairs_begin(ends: &[u8; 544], b: &[u8], n: usize) -> bool
 {
     let mut i: usize = 0;
     while i < n {
-        if ends[i] != b[i + i] {
+        if consumer_of(ends, i) != b[i + i] {
             return false;
         }
-        if ends[256 + i] != b[i + i + 1] {
+        if slot_of(ends, i) != b[i + i + 1] {
             return false;
         }
         i += 1;

@@ -1,3 +1,2 @@
-pub mod ArenaLaws
 pub mod RunLaws
 pub mod CallLaws

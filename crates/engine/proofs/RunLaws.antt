@@ -29,8 +29,7 @@ use Rattle.simplify_ordering.specs.Walks.{sheet-of, Fetch-asks, Orderings-are, 
 use Rattle.simplify_ordering.specs.declared.walks.Fetched.{Fetched}
 use Rattle.simplify_ordering.specs.declared.walks.Orderings.{Orderings}
 use Rattle.writing.specs.Blocks.{Sheet-wrote}
-use Rattle.engine.specs.Call.{call, Plan-stored, Graph-made}
-use Rattle.engine.specs.Lines.{Run-wrote}
+use Rattle.engine.specs.Call.{call, Plan-stored, Graph-made, Run-wrote}
 
 -- What the walks ask -------------------------------------------------------------------------------------------------------------
 

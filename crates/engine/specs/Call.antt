@@ -1,12 +1,15 @@
 -- What the stages of the call hand on, and what a call leaves.
 use mathlib.Core.Path.{_≡_}
 use Prim.Native.Nat.{ℕ, _≤_}
-use mathlib.Core.List.{List}
-use lib.ListN.{length}
+use mathlib.Core.List.{List, _++_}
+use lib.ListN.{length, drop}
 use Rattle.plan.specs.declared.answer.Answer.{Answer}
-use Rattle.plan.specs.Finished.{Called}
+use Rattle.plan.specs.declared.answer.Finished.{Finished}
+use Rattle.plan.specs.Finished.{Called, finished-answer}
 use Rattle.plan.specs.Graph.{graph}
 use Rattle.plan.specs.Sheet.{Step}
+use Rattle.plan.specs.Text.{printed}
+use Rattle.plan.specs.Visit.{Run}
 use Rattle.storage.specs.declared.edges.GraphSize.{GraphSize}
 use Rattle.storage.specs.Edges.{stored-edges, In-rows}
 use Rattle.storage.specs.Stored.{Steps-held}
@@ -30,3 +33,9 @@ pub record Graph-made (ps : List Step) (list ends edges : List ℕ) (size : Grap
   pub few-places : length list ≤ 288
   pub few-edges : size .edges ≤ 256
   pub rows : In-rows ends (size .edges) (size .steps)
+
+-- The run was written over the front of a buffer, and f says where its blocks end and what its figures are. `run` gives it from the
+-- places gone back along and the sorts removed: of these only the number of the sorts is written
+pub record Run-wrote (run : List ℕ → List ℕ → Run) (removed : ℕ) (entry exit : List ℕ) (f : Finished) : Type 0 where
+  pub answer : (back gone : List ℕ) → removed ≡ length gone → f ≡ finished-answer (run back gone)
+  pub bytes : (back gone : List ℕ) → removed ≡ length gone → exit ≡ printed (run back gone) ++ drop (length (printed (run back gone))) entry

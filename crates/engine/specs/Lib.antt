@@ -1,3 +1,2 @@
-pub mod Lines
 pub mod Call
 pub mod Demand3

@@ -12,7 +12,6 @@ use plan::answer::Answer;
 use reading::PlanRead;
 use reading::read_plan;
 
-pub mod arena; // arena.rt: the arena written out, a record for each line
 pub mod run; // run.rt: from a plan to its finished sheet
 
 // The definition decides the answer and every byte of the output. Demands 1 and 3 hold of every call, and what is answered fits.

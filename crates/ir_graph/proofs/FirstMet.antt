@@ -1,14 +1,14 @@
 -- The line of an id that is met first: going through the steps met, and the table of them.
 use mathlib.Core.Path.{_≡_, refl, sym, ap, ap₂, _∙_}
 use mathlib.Core.List.{List, [], _∷_, _++_}
-use Prim.Native.Nat.{ℕ, suc, _+_, _*_, _≤_, _<_}
+use Prim.Native.Nat.{ℕ, suc, _+_, _≤_, _<_}
 use native.Mathlib.Omega.{arith}
 use native.Mathlib.Numerals.{add-one}
-use mathlib.Core.Bool.{Bool, true, false, _&&_}
+use mathlib.Core.Bool.{true, false, _&&_}
 use lib.Dec.{eqb}
 use lib.ListN.{length, getD, take, drop, set, length-take, drop-of-length-le}
-use lib.Seq.{drop-cons, getD-take, getD-drop}
-use Rattle.plan.specs.Sheet.{Step, step-at, step-of}
+use lib.Seq.{drop-cons, getD-take}
+use Rattle.plan.specs.Sheet.{Step}
 use Rattle.plan.specs.Graph.{one-id, first-met, popped, key}
 use Rattle.storage.specs.Stored.{table, stored-step, stored-steps}
 use Rattle.storage.proofs.Laws.{length-steps, same-table}
@@ -16,8 +16,9 @@ use Rattle.claims.specs.Plan.{Plan}
 use Rattle.claims.proofs.MergedPlan.{key-first}
 use Rattle.ir_graph.specs.Turns.{cached}
 use Rattle.ir_graph.specs.UpdateCaches.{first-lines}
-use Rattle.ir_graph.proofs.Bounds.{step-there, cache-there}
-use Rattle.ir_graph.proofs.Pushing.{pushed-one, one-entry-more}
+use Rattle.ir_graph.proofs.Bounds.{step-there}
+use Rattle.ir_graph.proofs.Pushing.{pushed-one}
+use Rattle.storage.proofs.Laws.{one-entry-more}
 
 -- Two lines with one id ----------------------------------------------------------------------------------------------------------
 
@@ -25,13 +26,9 @@ module _ (bytes : List ℕ) (n : ℕ) where
   abbrev ps : List Step
   ps = stored-steps bytes n
 
-  id-there : (i : ℕ) → i < n → step-at ps i .a ≡ getD bytes (i * 32 + 1) 0
-  unfolding stored-step step-of
-  id-there i h = ap (λ (s : Step). s .a) (step-there bytes n i h) ∙ getD-drop (i * 32) bytes 1 0
-
   module _ (k m : ℕ) (here : k < n) (there : m < n) where
-    by-kinds : one-id ps k m ≡ (cached bytes k && cached bytes m && eqb (step-at ps k .a) (step-at ps m .a))
-    by-kinds = ap₂ (λ (x y : Bool). x && y && eqb (step-at ps k .a) (step-at ps m .a)) (cache-there bytes n k here) (cache-there bytes n m there)
+    by-kinds : one-id ps k m ≡ (cached bytes k && cached bytes m && eqb (stored-step bytes k .a) (stored-step bytes m .a))
+    by-kinds = rw (step-there bytes n k here, step-there bytes n m there)
 
     pub other-kind : cached bytes k ≡ false → false ≡ one-id ps k m
     other-kind e = rw (by-kinds, e)
@@ -39,8 +36,8 @@ module _ (bytes : List ℕ) (n : ℕ) where
     pub other-second : cached bytes k ≡ true → cached bytes m ≡ false → false ≡ one-id ps k m
     other-second e f = rw (by-kinds, e, f)
 
-    pub by-id : cached bytes k ≡ true → cached bytes m ≡ true → eqb (getD bytes (k * 32 + 1) 0) (getD bytes (m * 32 + 1) 0) ≡ one-id ps k m
-    by-id e f = rw (by-kinds, e, f, id-there k here, id-there m there)
+    pub by-id : {x y : ℕ} → cached bytes k ≡ true → cached bytes m ≡ true → x ≡ stored-step bytes k .a → y ≡ stored-step bytes m .a → eqb x y ≡ one-id ps k m
+    by-id e f a b = rw (by-kinds, e, f, a, b)
 
 -- Going through the steps met ----------------------------------------------------------------------------------------------------
 

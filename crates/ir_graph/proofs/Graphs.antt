@@ -4,7 +4,7 @@ use Prim.Native.Nat.{ℕ, _+_, _-_, _≤_, _<_}
 use native.Mathlib.Omega.{arith}
 use mathlib.Core.List.{List, _++_}
 use lib.ListN.{length, getD, set, take, drop, length-take, length-drop}
-use lib.Seq.{getD-take, getD-drop, drop-set-add}
+use lib.Seq.{getD-take, getD-drop}
 use Rattle.plan.specs.Sheet.{Step}
 use Rattle.plan.specs.Faults.{named}
 use Rattle.plan.specs.Graph.{Edge, sinks}
@@ -20,7 +20,7 @@ use Rattle.ir_graph.specs.Hits.{Hits-counted}
 use Rattle.ir_graph.specs.Edges.{Linked}
 use Rattle.ir_graph.specs.Built.{Built}
 use Rattle.ir_graph.proofs.Bounds.{namings}
-use Rattle.ir_graph.proofs.Linking.{length-edges, first-set, between, same-into}
+use Rattle.ir_graph.proofs.Linking.{length-edges, between, same-into}
 use Rattle.ir_graph.proofs.There.{place-there, consumer-there, slot-there, producer-there}
 use Rattle.ir_graph.proofs.SecondPass.{Growing, Turn, past-of, begins, turn, turns-left, gone, just-pushed, growing-next, grown}
 use Rattle.ir_graph.proofs.Rows.{Rows, no-rows, rows-next, all-rows, in-a-row}
@@ -69,17 +69,19 @@ module _ (bytes : List ℕ) (n : ℕ) (small : n ≤ 32) (plan : Plan (stored-st
             let size : length waiting ≡ len′ - (i + 1) = simp (length-drop, length-take) (omega (arith, g′ .fits, g′ .room)) in
             omega (arith, g′ .there (getD waiting (k - (i + 1)) 0) (mem-at waiting (k - (i + 1)) 0 (omega (arith, size))), at, length-steps bytes n)
 
-        pub placing-next : {ends′ edges′ : List ℕ} {made′ : ℕ} → Linked here (between len len′ places′) (set ends (512 + here) made) edges made ends′ edges′ made′
+        -- ends₁ has the number of the first in-edge
+        pub placing-next : {ends₁ ends′ edges′ : List ℕ} {made′ : ℕ} → ((d : List ℕ) (m : ℕ) → m ≤ 256 → stored-edges ends₁ d m ≡ stored-edges ends d m)
+            → drop 512 ends₁ ≡ set (drop 512 ends) here made → Linked here (between len len′ places′) ends₁ edges made ends′ edges′ made′
             → Placing ps places′ counts′ ends′ edges′ len′ made′ (i + 1)
-        placing-next {ends′} {edges′} {made′} l =
+        placing-next {ends′ = ends′} {edges′} {made′} same first l =
             let new = followed-by bytes counts here in
             let pushed = just-pushed bytes n small plan formed places counts es len i (g .growing) h places′ counts′ len′ q in
             let now : stored-edges ends′ edges′ made′ ≡ es ++ edges-into here new =
             l .linked
-            ∙ ap₂ (λ (x y : List Edge). x ++ y) (first-set ends edges here made made (omega (arith, turn-at .edges)))
+            ∙ ap₂ (λ (x y : List Edge). x ++ y) (same edges made (omega (arith, turn-at .edges)))
             (same-into here (between len len′ places′) ∙ ap (edges-into here) pushed) in
             let firsts : drop 512 ends′ ≡ set (drop 512 ends) here (length es) =
-            l .firsts ∙ drop-set-add 512 ends here made ∙ ap (set (drop 512 ends) here) (sym (length-edges ends edges made)) in
+            l .firsts ∙ first ∙ ap (set (drop 512 ends) here) (sym (length-edges ends edges made)) in
             record {
               growing = rw now (growing-next bytes n small plan formed places counts es len i (g .growing) h places′ counts′ len′ q u);
               rows =

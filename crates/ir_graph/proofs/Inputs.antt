@@ -27,7 +27,7 @@ module _ (bytes : List ℕ) (i : ℕ) where
   pub push-none : (list : List ℕ) (len : ℕ) → take (len + 0) list ≡ take len list ++ take 0 (inputs-of bytes i)
   push-none list len = let e : len + 0 ≡ len = omega arith in rw (e, append-nil)
 
-  pub input-at : (k : ℕ) → k < getD bytes (i * 32 + 4) 0 → getD (inputs-of bytes i) k 0 ≡ getD bytes (i * 32 + 7 + k) 0
+  input-at : (k : ℕ) → k < getD bytes (i * 32 + 4) 0 → getD (inputs-of bytes i) k 0 ≡ getD bytes (i * 32 + 7 + k) 0
   input-at k l = rw (inputs-there bytes i, getD-take (getD bytes (i * 32 + 4) 0) (drop (i * 32 + 7) bytes) k 0 l, getD-drop (i * 32 + 7) bytes k 0)
 
   -- one input more

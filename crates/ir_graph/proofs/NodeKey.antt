@@ -1,16 +1,12 @@
 -- IRNodeKey: the ways through `new`, and that a step's line can stand for its key.
-use mathlib.Core.Path.{_≡_, sym, ap}
-use mathlib.Core.List.{List}
-use Prim.Native.Nat.{ℕ, _+_, _*_}
+use mathlib.Core.Path.{_≡_}
+use Prim.Native.Nat.{ℕ}
 use mathlib.Core.Bool.{Bool, true, false}
 use lib.Dec.{T}
-use lib.ListN.{getD}
-use lib.Seq.{getD-drop}
 use Rattle.plan.specs.declared.ir.IR.{IR}
 use Rattle.plan.specs.Kinds.{same-ir}
 use Rattle.plan.specs.Lists.{if_then_else_}
-use Rattle.plan.specs.Sheet.{Step, Sheet, step-at, step-of}
-use Rattle.storage.specs.Stored.{stored-step}
+use Rattle.plan.specs.Sheet.{Step, Sheet, step-at}
 use Rattle.claims.specs.WellFormed.{WellFormed}
 use Rattle.plan.proofs.KindNumbers.{same-kind}
 use Rattle.claims.proofs.CacheIds.{one-line-each-id}
@@ -21,10 +17,9 @@ pub other-key : (s : Step) (n : ℕ) → same-ir (s .kind) IR.Cache ≡ false �
 unfolding node-key
 other-key s n e = rw e
 
-pub cache-key : (bytes : List ℕ) (i : ℕ) → same-ir (stored-step bytes i .kind) IR.Cache ≡ true
-    → IRNodeKey.CacheId (getD bytes (i * 32 + 1) 0) ≡ node-key (stored-step bytes i) i
-unfolding node-key stored-step step-of
-cache-key bytes i e = rw e (ap IRNodeKey.CacheId (sym (getD-drop (i * 32) bytes 1 0)))
+pub cache-key : (s : Step) (n : ℕ) {id : ℕ} → same-ir (s .kind) IR.Cache ≡ true → id ≡ s .a → IRNodeKey.CacheId id ≡ node-key s n
+unfolding node-key
+cache-key s n e a = rw (e, a)
 
 -- Two steps with one key are one line
 pub one-line-each-key : (sh : Sheet) → WellFormed sh → (m n : ℕ) → node-key (step-at (sh .steps) m) m ≡ node-key (step-at (sh .steps) n) n → m ≡ n

@@ -13,7 +13,7 @@ use Rattle.plan.specs.Lists.{if_then_else_, select, numbered}
 use Rattle.plan.specs.Sheet.{Step}
 use Rattle.plan.specs.Graph.{sinks}
 use Rattle.storage.specs.Stored.{table, stored-step, stored-steps}
-use Rattle.storage.proofs.Laws.{length-table, table-more}
+use Rattle.storage.proofs.Laws.{length-table, one-entry-more}
 use Rattle.claims.proofs.Plans.{sinks-from}
 use Rattle.ir_graph.specs.Pushed.{Pushed}
 use Rattle.ir_graph.specs.Turns.{root}
@@ -33,9 +33,6 @@ pushed-then a b {x = x} {k = k} p p′ =
     }
 
 -- Tables -------------------------------------------------------------------------------------------------------------------------
-
-pub one-entry-more : {A : Type 0} (f : ℕ → A) (n : ℕ) → table f 0 (n + 1) ≡ table f 0 n ++ (f n ∷ [])
-one-entry-more f n = let e : 0 + n ≡ n = omega arith in rw (add-one, table-more f 0 n, e)
 
 -- The roots ----------------------------------------------------------------------------------------------------------------------
 

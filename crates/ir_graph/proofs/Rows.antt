@@ -15,7 +15,7 @@ use Rattle.plan.specs.Faults.{named}
 use Rattle.plan.specs.Graph.{Edge, graph, sinks, is-cache}
 use Rattle.plan.specs.Visit.{is-into, no-edge}
 use Rattle.storage.specs.Stored.{stored-steps, Step-formed}
-use Rattle.storage.specs.Edges.{stored-edge, stored-edges, In-a-row}
+use Rattle.storage.specs.Edges.{stored-edge, stored-edges, made, In-a-row}
 use Rattle.plan.proofs.Booleans.{differ, equal}
 use Rattle.plan.proofs.Counts.{false-of, true-of, sum-reverse, times-same, times-other, same-number, only}
 use Rattle.claims.specs.Plan.{Plan}
@@ -26,7 +26,6 @@ use Rattle.claims.proofs.Reached.{followed-le}
 use Rattle.claims.proofs.Hits.{hits-named}
 use Rattle.claims.proofs.Visits.{length-numbered}
 use Rattle.claims.proofs.Places.{opened}
-use Rattle.ir_graph.specs.Edges.{made}
 use Rattle.ir_graph.proofs.Linking.{length-edges}
 use Rattle.ir_graph.proofs.There.{edge-there}
 use Rattle.plan.proofs.ListLaws.{select-append}

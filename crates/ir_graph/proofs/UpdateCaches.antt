@@ -16,9 +16,9 @@ use Rattle.plan.specs.Kinds.{ir-number, same-ir}
 use Rattle.plan.specs.Lists.{if_then_else_}
 use Rattle.plan.specs.Sheet.{Step, no-step, step-at}
 use Rattle.plan.specs.Graph.{is-cache, key, update-cache-nodes}
-use Rattle.storage.specs.Stored.{stored-steps, Step-formed}
+use Rattle.storage.specs.Stored.{stored-steps, Steps-held}
 use Rattle.storage.proofs.Laws.{table-at, length-steps}
-use Rattle.storage.proofs.Changes.{formed-still, input-stored}
+use Rattle.storage.proofs.StepLaws.{its-n1}
 use Rattle.plan.specs.Visit.{with-input}
 use Rattle.claims.proofs.Stays.{reads-kept}
 use Rattle.claims.proofs.StepTable.{has-inputs}
@@ -28,8 +28,7 @@ use Rattle.claims.proofs.Keys.{key-key, key-cache}
 use Rattle.claims.proofs.Merged.{at-numbered}
 use Rattle.ir_graph.specs.Turns.{cached}
 use Rattle.ir_graph.specs.UpdateCaches.{first-lines, line-met, update-cache-node, Updatable}
-use Rattle.ir_graph.proofs.Bounds.{step-there, cache-there}
-use Rattle.ir_graph.proofs.Inputs.{input-count, input-at}
+use Rattle.ir_graph.proofs.Bounds.{cache-there}
 
 -- One line -----------------------------------------------------------------------------------------------------------------------
 
@@ -67,8 +66,8 @@ module _ (first : List ℕ) (ps : List Step) (m : ℕ) where
       }
 
 -- where it is stored
-module _ (bytes : List ℕ) (n : ℕ) (first : List ℕ) (m : ℕ) (small : n ≤ 32) (here : m < n) (size : length bytes ≡ 1024)
-    (formed : (i : ℕ) → i < n → Step-formed bytes i) (u : Updatable (take n first) (stored-steps bytes n)) (e : cached bytes m ≡ true) where
+module _ (bytes : List ℕ) (n : ℕ) (first : List ℕ) (m : ℕ) (held : Steps-held bytes n) (here : m < n) (u : Updatable (take n first) (stored-steps bytes n))
+    (e : cached bytes m ≡ true) where
   abbrev ps : List Step
   ps = stored-steps bytes n
 
@@ -83,34 +82,18 @@ module _ (bytes : List ℕ) (n : ℕ) (first : List ℕ) (m : ℕ) (small : n �
   pub line-there : line < n
   line-there = omega (arith, length-steps bytes n, has-inputs ps line (omega (arith, u .input line (caches .1))))
 
-  has-input : (i : ℕ) → i < n → T (is-cache ps i) → 0 < getD bytes (i * 32 + 4) 0
-  has-input i h t =
-      omega (arith, u .input i t, ap (λ (s : Step). length (s .inputs)) (step-there bytes n i h), input-count bytes i size (omega arith) (formed i h))
+  pub have-inputs : (1 ≤ getD bytes (m * 32 + 4) 0) × (1 ≤ getD bytes (line * 32 + 4) 0)
+  have-inputs = (
+    omega (arith, u .input m (caches .0), its-n1 bytes n m held here),
+    omega (arith, u .input line (caches .1), its-n1 bytes n line held line-there),
+  )
 
-  -- the bytes afterwards
-  abbrev new : List ℕ
-  new = set bytes (m * 32 + 7) (getD bytes (line * 32 + 7) 0)
-
-  pub input-updated : stored-steps new n ≡ update-cache-node (take n first) ps m
-  input-updated =
-      input-stored bytes n m (omega arith) formed here 0 (getD bytes (line * 32 + 7) 0) (has-input m here (caches .0))
-      ∙ ap (λ (v : ℕ). set ps m (with-input 0 v (step-at ps m))) same-input
+  pub input-updated : {v : ℕ} {qs : List Step} → v ≡ getD (step-at ps line .inputs) 0 0 → qs ≡ set ps m (with-input 0 v (step-at ps m))
+      → qs ≡ update-cache-node (take n first) ps m
+  input-updated same is =
+      is
+      ∙ ap (λ (v : ℕ). set ps m (with-input 0 v (step-at ps m))) (same ∙ ap (λ (k : ℕ). getD (step-at ps k .inputs) 0 0) (sym (getD-take n first m 0 here)))
       ∙ updated (take n first) ps m (cache-there bytes n m here ∙ e)
-    where
-      plus-zero : (x : ℕ) → x + 0 ≡ x
-      plus-zero x = omega arith
-
-      same-input : getD bytes (line * 32 + 7) 0 ≡ updated-input (take n first) ps m
-      same-input =
-          ap (λ (x : ℕ). getD bytes x 0) (sym (plus-zero (line * 32 + 7)))
-          ∙ sym (input-at bytes line 0 (has-input line line-there (caches .1)))
-          ∙ sym (ap (λ (s : Step). getD (s .inputs) 0 0) (step-there bytes n line line-there))
-          ∙ ap (λ (k : ℕ). getD (step-at ps k .inputs) 0 0) (sym (getD-take n first m 0 here))
-
-  pub formed-updated : (i : ℕ) → i < n → Step-formed new i
-  formed-updated i h =
-      formed-still bytes m i 7 (getD bytes (line * 32 + 7) 0) (omega arith) (λ q. omega (arith, q)) (λ q. omega (arith, q)) (λ q. omega (arith, q)) (λ _ q. absurd (omega (arith, q)))
-      (omega arith) (formed i h)
 
 one-entry : (xs ys : List ℕ) → length xs ≡ 1 → length ys ≡ 1 → set xs 0 (getD ys 0 0) ≡ ys
 one-entry (x ∷ []) (y ∷ []) e f = refl

@@ -1,27 +1,10 @@
 // The edges of one step, numbered in a row as they are made.
-ghost use mathlib.Core.Path.{_≡_};
-ghost use mathlib.Core.List.{[], _∷_, _++_};
+ghost use mathlib.Core.List.{[]};
 ghost use Prim.Native.Nat.{ℕ, _+_, _-_, _≤_, _<_};
 ghost use lib.ListN.{getD, take, drop};
-ghost use Rattle.storage.specs.Edges.{stored-edges};
-ghost use Rattle.ir_graph.specs.Edges.{made, Linked};
+ghost use Rattle.ir_graph.specs.Edges.{Linked};
 use plan::sizes::size_288;
-use plan::sizes::size_512;
-use plan::sizes::size_544;
-
-// The edge number e, from `input` into the slot k of the step. It is ordered.
-fn make_edge(ends: &mut [u8; 544], edges: &mut [u8; 512], e: usize, step: u8, k: u8, input: u8)
-    requires { ⌜ (e < 256) × (input < 255) ⌝ }
-    ensures { λ r. ⌜ stored-edges (now (ends .exit)) (now (edges .exit)) (e + 1) ≡ stored-edges (now (ends .entry)) (now (edges .entry)) e ++ (made step k input ∷ []) ⌝ }
-    ensures { λ r. ⌜ drop 512 (now (ends .exit)) ≡ drop 512 (now (ends .entry)) ⌝ }
-{
-    size_544(ends);
-    size_512(edges);
-    ends[e] = step;
-    ends[256 + e] = k;
-    edges[e] = input;
-    edges[256 + e] = 0;
-}
+use storage::edges::make_edge;
 
 // An edge from each input of the step, which are the places from `start` to `end`, behind the first `made`. The result is how many
 // edges there are then.

@@ -9,6 +9,7 @@ ghost use Rattle.ir_graph.specs.UpdateCaches.{first-lines};
 use crate::hits::count_hits;
 use plan::sizes::size_32;
 use plan::sizes::size_288;
+use storage::steps::cache_id;
 use storage::steps::is_cache;
 
 // Are both Caches, with one id?
@@ -22,7 +23,7 @@ fn one_id(steps: &[u8; 1024], n: usize, k: usize, m: usize) -> bool
     if !is_cache(steps, m) {
         return false;
     }
-    steps[k * 32 + 1] == steps[m * 32 + 1]
+    cache_id(steps, k) == cache_id(steps, m)
 }
 
 // The first Cache with m's id among those met; m itself where there is none.

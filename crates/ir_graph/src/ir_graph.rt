@@ -15,6 +15,7 @@ use crate::roots::push_roots;
 use crate::stored::copy_inputs;
 use plan::sizes::size_288;
 use plan::sizes::size_544;
+use storage::edges::store_first_into;
 use storage::steps::is_cache;
 
 // The inputs that follow the place of the step i: a Cache's follow at its last place.
@@ -74,7 +75,7 @@ fn grow(
         let current = places[i];
         let start = len;
         // a Cache's is written at each of its places: that of the last, where its edges are made, stays
-        ends[512 + (current as usize)] = made as u8;
+        store_first_into(ends, current, made as u8);
         len = follow(steps, current as usize, places, start, hits);
         made = link(current, places, start, len, ends, edges, made);
         i = i + 1;

@@ -3,6 +3,7 @@ ghost use mathlib.Core.Path.{_≡_};
 ghost use Prim.Native.Nat.{_<_};
 ghost use Rattle.storage.specs.Stored.{stored-step};
 ghost use Rattle.ir_graph.specs.NodeKey.{node-key};
+use storage::steps::cache_id;
 use storage::steps::is_cache;
 
 // On an accepted sheet two steps with one key are one line (proofs/NodeKey), so the graph lets a step's line stand for its key.
@@ -20,6 +21,6 @@ impl IRNodeKey {
         if !is_cache(steps, b) {
             return IRNodeKey::Node(i);
         }
-        IRNodeKey::CacheId(steps[b * 32 + 1])
+        IRNodeKey::CacheId(cache_id(steps, b))
     }
 }

@@ -1,6 +1,6 @@
 -- A step's edges as a visit finds them, from those into it and those out of it.
 use mathlib.Core.Path.{_≡_}
-use Prim.Native.Nat.{ℕ, _+_, _<_}
+use Prim.Native.Nat.{ℕ, _+_}
 use native.Mathlib.Omega.{arith}
 use mathlib.Core.Bool.{Bool, false}
 use mathlib.Core.List.{List}
@@ -9,12 +9,12 @@ use Rattle.plan.specs.Lists.{if_then_else_, all?}
 use Rattle.plan.specs.Visit.{around, outs-unordered}
 use Rattle.claims.specs.Demand3.{leaving-among}
 use Rattle.node_rules.specs.declared.around.InEdges.{InEdges}
-use Rattle.storage.specs.Edges.{stored-edges}
-use Rattle.node_rules.specs.Held.{mark, In-run, run-marks}
+use Rattle.storage.specs.Edges.{mark, stored-edges}
+use Rattle.node_rules.specs.Held.{In-run, run-marks}
 use Rattle.node_rules.proofs.InEdges.{ins-are, mark-of}
 use Rattle.node_rules.proofs.OutEdges.{out-is}
 
-module _ (ends edges : List ℕ) (len n : ℕ) (small : n < 32) (d : InEdges) (run : In-run ends len n d) where
+module _ (ends edges : List ℕ) (len n : ℕ) (d : InEdges) (run : In-run ends len n d) where
   abbrev is-unordered : ℕ → ℕ → Bool
   is-unordered k to = if ltb k to then mark edges k else false
 
@@ -28,4 +28,4 @@ module _ (ends edges : List ℕ) (len n : ℕ) (small : n < 32) (d : InEdges) (r
       let first : d .from + 0 ≡ d .from = omega arith in
       let ins = ins-are ends edges len n d run in
       let in0 = rw first at (mark-of edges d 0 (run .order)) in
-      rw (a, b, c, e, f, ins, in0, mark-of edges d 1 (run .order), ← (out-is ends edges len n small k leaves))
+      rw (a, b, c, e, f, ins, in0, mark-of edges d 1 (run .order), ← (out-is ends edges len n k leaves))

@@ -4,21 +4,19 @@ use mathlib.Core.Logic.{_≢_, _⊎_, inl, inr}
 use Prim.Native.Nat.{ℕ, _+_, _≤_, _<_}
 use native.Mathlib.Omega.{arith}
 use native.Mathlib.Decide.{decLt, ℕ-discrete}
-use mathlib.Core.Bool.{Bool, true, false, _&&_, _||_, not, or-false}
+use mathlib.Core.Bool.{Bool, true, false, _&&_, _||_, not, or-false, or-true}
 use mathlib.Core.List.{List, [], _∷_, map}
 use mathlib.Core.Option.{Option, none}
 use lib.Dec.{eqb}
-use lib.ListN.{length, getD, set, length-set}
-use Rattle.plan.specs.Lists.{if_then_else_, yes?}
+use Rattle.plan.specs.Lists.{if_then_else_}
 use Rattle.plan.specs.Graph.{Edge}
 use Rattle.plan.specs.declared.rules.Loosened.{Loosened}
 use Rattle.plan.specs.Visit.{is-into, is-out-of, loosened, relinked}
-use Rattle.storage.specs.Edges.{producer-of, stored-edge, stored-edges}
+use Rattle.storage.specs.Edges.{producer-of, stored-edge, stored-edges, with-mark, with-producer, loosened-if, produced-if, Edge-changed}
 use Rattle.storage.proofs.Laws.{same-table}
-use Rattle.storage.proofs.EdgeStores.{with-mark, with-producer, mark-stored, mark-elsewhere, producer-stored, producer-elsewhere}
 use Rattle.node_rules.specs.declared.around.InEdges.{InEdges}
 use Rattle.node_rules.specs.Held.{In-run, ins-of, outs-of, handed-on, cut-off}
-use Rattle.node_rules.proofs.EdgeLaws.{out-of-held, map-table}
+use Rattle.node_rules.proofs.EdgeLaws.{map-table}
 use Rattle.node_rules.proofs.InEdges.{inside, outside}
 
 map-twice : {A : Type 0} (f g h : A → A) → ((x : A) → f (g x) ≡ h x) → (l : List A) → map f (map g l) ≡ map h l
@@ -40,11 +38,11 @@ module _ (change : Edge → Edge) (ends old : List ℕ) (a : ℕ) where
   pub none-changed : Changed change ends old old a a
   none-changed = record { done = λ j h k l. absurd (omega arith); rest = λ j h k. refl }
 
-  -- the i-th and no other
-  pub one-changed : (l l′ : List ℕ) (i : ℕ) → a ≤ i → i < 256 → stored-edge ends l′ i ≡ change (stored-edge ends l i)
-      → ((j : ℕ) → j < 256 → j ≢ i → stored-edge ends l′ j ≡ stored-edge ends l j) → Changed change ends old l a i → Changed change ends old l′ a (i + 1)
-  one-changed l l′ i b h here elsewhere c =
-      record { done = λ j k m n. by j k m n (ℕ-discrete j i); rest = λ j k o. elsewhere j k (apart j o) ∙ c .rest j k (still j o) }
+  -- the i-th and no other: `one` is what is done to it
+  pub one-changed : (l l′ : List ℕ) (i : ℕ) → a ≤ i → i < 256 → (one : Edge → Edge) → Edge-changed one ends i l l′ → one (stored-edge ends l i) ≡ change (stored-edge ends l i)
+      → Changed change ends old l a i → Changed change ends old l′ a (i + 1)
+  one-changed l l′ i b h one s e c =
+      record { done = λ j k m n. by j k m n (ℕ-discrete j i); rest = λ j k o. s .elsewhere j k (apart j o) ∙ c .rest j k (still j o) }
     where
       apart : (j : ℕ) → (j < a) ⊎ (i + 1 ≤ j) → j ≢ i
       apart j (inl x) e = omega (arith, x, e)
@@ -56,8 +54,8 @@ module _ (change : Edge → Edge) (ends old : List ℕ) (a : ℕ) where
 
       by : (j : ℕ) → j < 256 → a ≤ j → j < i + 1 → Dec (j ≡ i) → stored-edge ends l′ j ≡ change (stored-edge ends old j)
       by j k m n (yes x) =
-          subst (λ (q : ℕ). stored-edge ends l′ q ≡ change (stored-edge ends old q)) (sym x) (here ∙ ap change (c .rest i h (inr (omega arith))))
-      by j k m n (no x) = elsewhere j k x ∙ c .done j k m (omega (arith, x))
+          subst (λ (q : ℕ). stored-edge ends l′ q ≡ change (stored-edge ends old q)) (sym x) (s .here ∙ e ∙ ap change (c .rest i h (inr (omega arith))))
+      by j k m n (no x) = s .elsewhere j k x ∙ c .done j k m (omega (arith, x))
 
 module _ (ends old now : List ℕ) (len : ℕ) (few : len ≤ 256) where
   each-edge : (change : Edge → Edge) → ((j : ℕ) → j < len → stored-edge ends now j ≡ change (stored-edge ends old j))
@@ -131,74 +129,29 @@ both-loosened n l ds = map-twice (loosened n (outs-of (l .out))) (loosened n (in
         ap (λ (u : Bool). with-mark u d)
         (by (d .unordered || (is-into n d && (if eqb (d .slot) 0 then l .in0 else l .later))) (is-out-of n d) _ (not-in (is-into n d) (eqb (d .slot) 0)))
 
--- the mark that a loop stores
-marked-if : (b : Bool) (u : ℕ) → yes? (if b then 1 else u) ≡ (yes? u || b)
-marked-if b u = by b (yes? u) refl
-  where
-    by : (b m : Bool) → yes? u ≡ m → yes? (if b then 1 else u) ≡ (m || b)
-    by true true e = refl
-    by true false e = refl
-    by false true e = e
-    by false false e = e
-
 -- an edge into the step
 abbrev pub in-loosened : Loosened → Edge → Edge
-in-loosened l d = with-mark (d .unordered || (if eqb (d .slot) 0 then l .in0 else l .later)) d
+in-loosened l d = loosened-if (if eqb (d .slot) 0 then l .in0 else l .later) d
 
-module _ (ends old : List ℕ) (a : ℕ) (edges : List ℕ) (k v : ℕ) (order : a ≤ k) (few : k < 256) (size : length edges ≡ 512) where
-  -- a mark is stored
-  next-marked : (change : Edge → Edge) → with-mark (yes? v) (stored-edge ends edges k) ≡ change (stored-edge ends edges k)
-      → Changed change ends old edges a k → Changed change ends old (set edges (256 + k) v) a (k + 1)
-  next-marked change e =
-      one-changed change ends old a edges (set edges (256 + k) v) k order few (mark-stored ends edges k v few size ∙ e) (mark-elsewhere ends edges k v few size)
+-- an edge that may leave it
+pub out-loosened : (n : ℕ) (d : Edge) (o : Bool) → o ≡ is-out-of n d → loosened-if o d ≡ loosened n (outs-of true) d
+out-loosened n d o e = rw e (ap (λ (u : Bool). with-mark u d) (by (is-into n d) (is-out-of n d) (d .unordered) (eqb (d .slot) 0)))
+  where
+    by : (i o u z : Bool) → (u || o) ≡ (u || (i && (if z then false else false)) || (o && true))
+    by i o true z = refl
+    by i true false z = rw (not-in i z)
+    by i false false z = rw (not-in i z)
 
-  pub next-in : (l : Loosened) → v ≡ (if (if eqb (getD ends (256 + k) 0) 0 then l .in0 else l .later) then 1 else getD edges (256 + k) 0)
-      → Changed (in-loosened l) ends old edges a k → Changed (in-loosened l) ends old (set edges (256 + k) v) a (k + 1)
-  unfolding stored-edge
-  next-in l e = next-marked (in-loosened l) (ap (λ (u : Bool). with-mark u (stored-edge ends edges k)) (ap yes? e ∙ marked-if _ (getD edges (256 + k) 0)))
-
-  pub next-out : (n : ℕ) → n < 32 → v ≡ (if eqb (getD edges k 0) n then 1 else getD edges (256 + k) 0)
-      → Changed (loosened n (outs-of true)) ends old edges a k → Changed (loosened n (outs-of true)) ends old (set edges (256 + k) v) a (k + 1)
-  unfolding stored-edge
-  next-out n small e =
-      next-marked (loosened n (outs-of true))
-      (ap (λ (u : Bool). with-mark u (stored-edge ends edges k))
-      (ap yes? e ∙ marked-if (eqb (getD edges k 0) n) (getD edges (256 + k) 0)
-      ∙ rw (out-of-held ends edges k n small) (mark (eqb (getD ends k 0) n) (eqb (getD edges k 0) n) (yes? (getD edges (256 + k) 0)) (eqb (getD ends (256 + k) 0) 0))))
-    where
-      mark : (i o u z : Bool) → (u || o) ≡ (u || (i && (if z then false else false)) || (o && true))
-      mark i o true z = refl
-      mark i true false z = rw (not-in i z)
-      mark i false false z = rw (not-in i z)
-
-  -- the producer is stored
-  pub next-handed-on : (n from : ℕ) → n < 32 → v ≡ (if eqb (getD edges k 0) n then from else getD edges k 0)
-      → Changed (handed-on n (producer-of from)) ends old edges a k → Changed (handed-on n (producer-of from)) ends old (set edges k v) a (k + 1)
-  unfolding stored-edge
-  next-handed-on n from small e =
-      one-changed (handed-on n (producer-of from)) ends old a edges (set edges k v) k order few
-      (producer-stored ends edges k v few size ∙ rw (out-of-held ends edges k n small, e) (by (eqb (getD edges k 0) n))) (producer-elsewhere ends edges k v few size)
-    where
-      edge : ℕ → Edge
-      edge p = with-producer (producer-of p) (stored-edge ends edges k)
-
-      by : (o : Bool) → edge (if o then from else getD edges k 0) ≡ (if o then edge from else edge (getD edges k 0))
-      by true = refl
-      by false = refl
+pub out-handed-on : (n from : ℕ) (d : Edge) (o : Bool) → o ≡ is-out-of n d → produced-if o from d ≡ handed-on n (producer-of from) d
+out-handed-on n from d o e = ap (λ (b : Bool). produced-if b from d) e
 
 -- an edge into a removed sort
 abbrev pub in-cut-off : Edge → Edge
-in-cut-off d = with-mark true (with-producer none d)
+in-cut-off d = loosened-if true (produced-if true 255 d)
 
-pub next-cut-off : (ends old : List ℕ) (a : ℕ) (edges : List ℕ) (k : ℕ) → a ≤ k → k < 256 → length edges ≡ 512
-    → Changed in-cut-off ends old edges a k → Changed in-cut-off ends old (set (set edges k 255) (256 + k) 1) a (k + 1)
-next-cut-off ends old a edges k order few size =
-    one-changed in-cut-off ends old a edges (set (set edges k 255) (256 + k) 1) k order few
-    (mark-stored ends (set edges k 255) k 1 few held ∙ ap (with-mark true) (producer-stored ends edges k 255 few size))
-    (λ j h d. mark-elsewhere ends (set edges k 255) k 1 few held j h d ∙ producer-elsewhere ends edges k 255 few size j h d)
-  where
-    held : length (set edges k 255) ≡ 512
-    held = simp length-set size
+pub both-changed : {f g : Edge → Edge} {ends : List ℕ} {k : ℕ} {l l′ l″ : List ℕ} → Edge-changed f ends k l l′ → Edge-changed g ends k l′ l″
+    → Edge-changed (λ d. g (f d)) ends k l l″
+both-changed {g = g} s s′ = record { here = s′ .here ∙ ap g (s .here); elsewhere = λ j h d. s′ .elsewhere j h d ∙ s .elsewhere j h d }
 
 module _ (ends old now : List ℕ) (len n : ℕ) (few : len ≤ 256) (d : InEdges) (run : In-run ends len n d) (i : ℕ) (h : d .to ≤ i) (h′ : i ≤ d .to) where
   pub ins-loosened : (l : Loosened) → Changed (in-loosened l) ends old now (d .from) i
@@ -220,7 +173,7 @@ module _ (ends old now : List ℕ) (len n : ℕ) (few : len ≤ 256) (d : InEdge
       others i false false x f = rw f
 
   pub ins-cut-off : Changed in-cut-off ends old now (d .from) i → stored-edges ends now len ≡ map (cut-off n) (stored-edges ends old len)
-  ins-cut-off c = run-changed ends old now len few n d run in-cut-off (cut-off n) (λ e t. rw t) (λ e f. rw f) i h h′ c
+  ins-cut-off c = run-changed ends old now len few n d run in-cut-off (cut-off n) (λ e t. rw (t, or-true (e .unordered))) (λ e f. rw f) i h h′ c
 
 -- Both ways --------------------------------------------------------------------------------------------------------------------------
 
@@ -234,6 +187,6 @@ both-relinked n from ds = map-twice (cut-off n) (handed-on n from) (relinked n f
         next : Bool → Edge
         next o = if o then with-producer from d else d
 
-        by : (o : Bool) → cut-off n (next o) ≡ (if is-into n d then in-cut-off d else next o)
+        by : (o : Bool) → cut-off n (next o) ≡ (if is-into n d then with-mark true (with-producer none d) else next o)
         by true = refl
         by false = refl

@@ -16,8 +16,8 @@ use Rattle.storage.proofs.Laws.{length-table, table-from-at, table-more, table-
 use Rattle.plan.proofs.ListLaws.{select-append}
 use Rattle.plan.specs.Visit.{is-into, in-edge, ins-unordered, no-edge}
 use Rattle.node_rules.specs.declared.around.InEdges.{InEdges}
-use Rattle.storage.specs.Edges.{producer-of, stored-edge, stored-edges, In-a-row}
-use Rattle.node_rules.specs.Held.{mark, In-run, run-marks}
+use Rattle.storage.specs.Edges.{mark, producer-of, stored-edge, stored-edges, In-a-row}
+use Rattle.node_rules.specs.Held.{In-run, run-marks}
 use Rattle.node_rules.proofs.EdgeLaws.{map-table, all-last}
 
 -- Finding the run: each edge before `to` is one into n -----------------------------------------------------------------------------
@@ -99,8 +99,8 @@ module _ (ends edges : List ℕ) (len n : ℕ) (d : InEdges) (run : In-run ends 
   unfolding ins-unordered stored-edge
   ins-are = ap (map (λ (x : Edge). x .unordered)) selected ∙ map-table (λ (x : Edge). x .unordered) edge (d .from) (d .to - d .from)
 
-  pub first-in : d .from < d .to → producer-of (getD edges (d .from) 0) ≡ in-edge n (stored-edges ends edges len) .producer
-  unfolding in-edge stored-edge
+  pub first-in : d .from < d .to → stored-edge ends edges (d .from) .producer ≡ in-edge n (stored-edges ends edges len) .producer
+  unfolding in-edge
   first-in h =
       let zero-more : d .from + 0 ≡ d .from = omega arith in
       rw (selected, table-from-at edge (d .from) (d .to - d .from) 0 no-edge (omega arith), zero-more)

@@ -1,28 +1,26 @@
 -- The edges out of a step are found by going through all edges.
 use mathlib.Core.Path.{_≡_, refl, sym, ap, ap₂, _∙_}
-use mathlib.Core.Logic.{_≢_}
 use Prim.Native.Nat.{ℕ, suc, _+_, _<_}
 use native.Mathlib.Omega.{arith}
 use native.Mathlib.Numerals.{add-one}
 use native.Mathlib.Decide.{decLt}
-use borrow.Author.Tests.{eq-eqb, ne-eqb, lt-ltb, le-ltb}
+use borrow.Author.Tests.{lt-ltb, le-ltb}
 use mathlib.Core.Bool.{Bool, true, false, _&&_, _||_, not, or-false, or-true}
-use mathlib.Core.List.{List, [], _∷_, _++_}
-use lib.Dec.{eqb, ltb}
+use mathlib.Core.List.{List, [], _∷_}
+use lib.Dec.{ltb}
 use lib.ListN.{getD, drop, List·getD-eq-default}
 use lib.Seq.{drop-cons, drop-length}
 use Rattle.plan.specs.Lists.{if_then_else_, all?, select}
 use Rattle.plan.specs.Graph.{Edge}
 use Rattle.storage.specs.Stored.{table}
-use Rattle.storage.proofs.Laws.{length-table, table-at, table-more}
+use Rattle.storage.proofs.Laws.{length-table, table-at, one-entry-more}
 use Rattle.plan.specs.Visit.{is-out-of, no-edge, out-edge, outs-unordered}
 use Rattle.claims.specs.Demand3.{leaving-among}
 use Rattle.claims.proofs.Edges.{out-edge-at}
-use Rattle.storage.specs.Edges.{stored-edge, stored-edges}
-use Rattle.node_rules.specs.Held.{mark}
-use Rattle.node_rules.proofs.EdgeLaws.{out-of-held, all-last}
+use Rattle.storage.specs.Edges.{mark, stored-edge, stored-edges}
+use Rattle.node_rules.proofs.EdgeLaws.{all-last}
 
-module _ (ends edges : List ℕ) (len n : ℕ) (small : n < 32) where
+module _ (ends edges : List ℕ) (len n : ℕ) where
   abbrev edge : ℕ → Edge
   edge = stored-edge ends edges
 
@@ -34,11 +32,11 @@ module _ (ends edges : List ℕ) (len n : ℕ) (small : n < 32) where
   abbrev pub Leaves-from : ℕ → Type 0
   Leaves-from k = leaving-among n ds ≡ k + leaving-among n (drop k ds)
 
-  leaves : (k : ℕ) → k < len → (b : Bool) → eqb (getD edges k 0) n ≡ b
+  leaves : (k : ℕ) → k < len → (b : Bool) → is-out-of n (edge k) ≡ b
       → leaving-among n (drop k ds) ≡ (if b then 0 else suc (leaving-among n (drop (k + 1) ds)))
   unfolding stored-edges leaving-among
   leaves k h b e =
-      rw (next, leaving-among, out-of-held ends edges k n small, e) (by b (leaving-among n (drop (k + 1) (table edge 0 len))))
+      rw (next, leaving-among, e) (by b (leaving-among n (drop (k + 1) (table edge 0 len))))
     where
       next : drop k (table edge 0 len) ≡ edge k ∷ drop (k + 1) (table edge 0 len)
       next =
@@ -52,11 +50,11 @@ module _ (ends edges : List ℕ) (len n : ℕ) (small : n < 32) where
   pub leaves-start : Leaves-from 0
   leaves-start = omega arith
 
-  pub leaves-here : (k : ℕ) → k < len → getD edges k 0 ≡ n → Leaves-from k → k ≡ leaving-among n ds
-  leaves-here k h e v = omega (arith, v, leaves k h true (eq-eqb (getD edges k 0) n e))
+  pub leaves-here : (k : ℕ) → k < len → is-out-of n (edge k) ≡ true → Leaves-from k → k ≡ leaving-among n ds
+  leaves-here k h e v = omega (arith, v, leaves k h true e)
 
-  pub leaves-later : (k : ℕ) → k < len → getD edges k 0 ≢ n → Leaves-from k → Leaves-from (k + 1)
-  leaves-later k h e v = omega (arith, v, leaves k h false (ne-eqb (getD edges k 0) n e))
+  pub leaves-later : (k : ℕ) → k < len → is-out-of n (edge k) ≡ false → Leaves-from k → Leaves-from (k + 1)
+  leaves-later k h e v = omega (arith, v, leaves k h false e)
 
   pub none-leaves : (k : ℕ) → k ≡ len → Leaves-from k → k ≡ leaving-among n ds
   unfolding stored-edges leaving-among
@@ -105,14 +103,11 @@ module _ (ends edges : List ℕ) (len n : ℕ) (small : n < 32) where
   unfolding table all?
   loose-none = refl
 
-  pub loose-next : (k : ℕ) (r : Bool) → Loose-to k r → Loose-to (k + 1) (r && (mark edges k || not (eqb (getD edges k 0) n)))
+  pub loose-next : (k : ℕ) (r u o : Bool) → u ≡ mark edges k → o ≡ is-out-of n (edge k) → Loose-to k r → Loose-to (k + 1) (r && (u || not o))
   unfolding stored-edge
-  loose-next k r v =
-      ap₂ (λ (x o : Bool). x && (mark edges k || not o)) v (sym (out-of-held ends edges k n small))
-      ∙ sym (ap (all? loose) one-more ∙ all-last loose (table edge 0 k) (edge k))
-    where
-      one-more : table edge 0 (k + 1) ≡ table edge 0 k ++ (edge k ∷ [])
-      one-more = ap (table edge 0) (add-one k) ∙ table-more edge 0 k ∙ ap (λ (j : ℕ). table edge 0 k ++ (edge j ∷ [])) (omega arith)
+  loose-next k r u o e f v =
+      ap₂ (λ (x y : Bool). x && (y || not o)) v e ∙ ap (λ (x : Bool). all? loose (table edge 0 k) && (mark edges k || not x)) f
+      ∙ sym (ap (all? loose) (one-entry-more edge k) ∙ all-last loose (table edge 0 k) (edge k))
 
   pub outs-are : (k : ℕ) (r : Bool) → k ≡ len → Loose-to k r → r ≡ outs-unordered n ds
   unfolding outs-unordered stored-edges

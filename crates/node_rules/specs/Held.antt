@@ -5,12 +5,13 @@ use mathlib.Core.Bool.{Bool, true, false}
 use mathlib.Core.List.{List, map}
 use mathlib.Core.Option.{Option, none}
 use lib.ListN.{length, getD, set}
-use Rattle.plan.specs.Lists.{if_then_else_, yes?}
+use Rattle.plan.specs.Lists.{if_then_else_}
 use Rattle.plan.specs.Sheet.{Step, step-at}
 use Rattle.plan.specs.Graph.{Edge}
 use Rattle.storage.specs.Stored.{table}
 use Rattle.plan.specs.declared.rules.Loosened.{Loosened}
 use Rattle.plan.specs.Visit as Visit
+use Rattle.storage.specs.Edges.{mark, stored-edge}
 use Rattle.storage.specs.declared.edges.GraphSize.{GraphSize}
 use Rattle.node_rules.specs.declared.around.InEdges.{InEdges}
 
@@ -23,11 +24,7 @@ pub record In-run (ends : List ℕ) (len n : ℕ) (d : InEdges) : Type 0 where
   pub into : (k : ℕ) → k < len → getD ends k 0 ≡ n → (d .from ≤ k) × (k < d .to)
   pub all : (k : ℕ) → d .from ≤ k → k < d .to → getD ends k 0 ≡ n
 
--- is edge k unordered?
-abbrev pub mark : List ℕ → ℕ → Bool
-mark edges k = yes? (getD edges (256 + k) 0)
-
--- which of them are
+-- which of them are unordered
 abbrev pub run-marks : List ℕ → InEdges → List Bool
 run-marks edges d = table (mark edges) (d .from) (d .to - d .from)
 
@@ -55,8 +52,8 @@ cut-off n d =
 pub record Edges-held (steps : List ℕ) (size : GraphSize) (ends edges : List ℕ) : Type 0 where
   pub few : size .edges ≤ 256
   pub bytes : length edges ≡ 512
-  pub there : (k : ℕ) → k < size .edges → getD ends k 0 < size .steps
-  pub slots : (k : ℕ) → k < size .edges → getD ends (256 + k) 0 < getD steps (getD ends k 0 * 32 + 4) 0
+  pub there : (k : ℕ) → k < size .edges → stored-edge ends edges k .consumer < size .steps
+  pub slots : (k : ℕ) → k < size .edges → stored-edge ends edges k .slot < getD steps (stored-edge ends edges k .consumer * 32 + 4) 0
 
 -- step n has an input, and an unordered edge leaves it
 pub record Unlinkable (bytes : List ℕ) (steps n : ℕ) (ds : List Edge) : Type 0 where

@@ -7,9 +7,13 @@ ghost use lib.Dec.{ltb};
 ghost use Rattle.plan.specs.Lists.{if_then_else_, all?};
 ghost use Rattle.plan.specs.Visit.{around, outs-unordered};
 ghost use Rattle.claims.specs.Demand3.{leaving-among};
-ghost use Rattle.storage.specs.Edges.{stored-edges, In-a-row};
-ghost use Rattle.node_rules.specs.Held.{mark, In-run, run-marks};
+ghost use Rattle.storage.specs.Edges.{mark, stored-edges, In-a-row};
+ghost use Rattle.node_rules.specs.Held.{In-run, run-marks};
 use plan::rules::Around;
+use storage::edges::consumer_of;
+use storage::edges::first_into;
+use storage::edges::is_out_of;
+use storage::edges::is_unordered;
 
 // The numbers of a step's in-edges: those from one up to the other.
 pub struct InEdges {
@@ -22,10 +26,10 @@ pub fn in_edges_of(ends: &[u8; 544], len: usize, n: u8) -> InEdges
     requires { ⌜ (len ≤ 256) × (n < 32) × In-a-row (now ends) len n ⌝ }
     ensures { λ r. ⌜ In-run (now (ends .entry)) len n r ⌝ }
 {
-    let from = ends[512 + (n as usize)] as usize;
+    let from = first_into(ends, n) as usize;
     let mut to = from;
     while to < len {
-        if ends[to] != n {
+        if consumer_of(ends, to) != n {
             return InEdges { from: from, to: to };
         }
         to = to + 1;
@@ -41,18 +45,22 @@ fn all_unordered(edges: &[u8; 512], d: InEdges) -> bool
     let mut r = true;
     let mut k = d.from;
     while k < d.to {
-        r = r & (edges[256 + k] == 1);
+        r = r & is_unordered(edges, k);
         k = k + 1;
     }
     r
 }
 
 // Is the edge k unordered, if it is one before `to`?
-fn is_unordered(edges: &[u8; 512], k: usize, to: usize) -> bool
+fn unordered_before(edges: &[u8; 512], k: usize, to: usize) -> bool
     requires { ⌜ to ≤ 256 ⌝ }
     ensures { λ r. ⌜ r ≡ (if ltb k to then mark (now (edges .entry)) k else false) ⌝ }
 {
-    if k < to { edges[256 + k] == 1 } else { false }
+    if k < to {
+        is_unordered(edges, k)
+    } else {
+        false
+    }
 }
 
 // Are all edges out of n, among the first `len`, unordered?
@@ -63,7 +71,7 @@ fn all_out_unordered(edges: &[u8; 512], len: usize, n: u8) -> bool
     let mut r = true;
     let mut k: usize = 0;
     while k < len {
-        r = r & ((edges[256 + k] == 1) | (edges[k] != n));
+        r = r & (is_unordered(edges, k) | !is_out_of(edges, k, n));
         k = k + 1;
     }
     r
@@ -76,7 +84,7 @@ pub fn leaving_edge(edges: &[u8; 512], len: usize, n: u8) -> usize
 {
     let mut k: usize = 0;
     while k < len {
-        if edges[k] == n {
+        if is_out_of(edges, k, n) {
             return k;
         }
         k = k + 1;
@@ -91,9 +99,9 @@ pub fn around_step(edges: &[u8; 512], len: usize, n: u8, d: InEdges) -> Around
 {
     let k = leaving_edge(edges, len, n);
     let ins = all_unordered(edges, d);
-    let in0 = is_unordered(edges, d.from, d.to);
-    let in1 = is_unordered(edges, d.from + 1, d.to);
-    let out = is_unordered(edges, k, len);
+    let in0 = unordered_before(edges, d.from, d.to);
+    let in1 = unordered_before(edges, d.from + 1, d.to);
+    let out = unordered_before(edges, k, len);
     let outs = all_out_unordered(edges, len, n);
     Around {
         ins: ins,

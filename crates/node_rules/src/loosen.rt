@@ -9,8 +9,10 @@ ghost use Rattle.plan.specs.Visit.{loosened};
 ghost use Rattle.storage.specs.Edges.{stored-edges};
 ghost use Rattle.node_rules.specs.Held.{In-run, ins-of, outs-of};
 use crate::around::InEdges;
-use plan::choice::pick_byte;
 use plan::rules::Loosened;
+use storage::edges::is_out_of;
+use storage::edges::loosen_if;
+use storage::edges::slot_of;
 
 // Is an edge into slot k loosened?
 fn loosened_in(l: Loosened, k: u8) -> bool
@@ -30,8 +32,7 @@ fn loosen_in(ends: &[u8; 544], edges: &mut [u8; 512], d: InEdges, l: Loosened)
     }
     let mut k = d.from;
     while k < d.to {
-        let u = edges[256 + k];
-        edges[256 + k] = pick_byte(loosened_in(l, ends[256 + k]), 1, u);
+        loosen_if(edges, k, loosened_in(l, slot_of(ends, k)));
         k = k + 1;
     }
 }
@@ -47,8 +48,8 @@ fn loosen_out(edges: &mut [u8; 512], len: usize, n: u8, out: bool)
     }
     let mut k: usize = 0;
     while k < len {
-        let u = edges[256 + k];
-        edges[256 + k] = pick_byte(edges[k] == n, 1, u);
+        let out_of = is_out_of(edges, k, n);
+        loosen_if(edges, k, out_of);
         k = k + 1;
     }
 }

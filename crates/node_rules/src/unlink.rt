@@ -9,8 +9,14 @@ ghost use Rattle.storage.specs.Edges.{producer-of, stored-edges};
 ghost use Rattle.node_rules.specs.Held.{In-run, handed-on, cut-off, Edges-held, Unlinkable, Unlinked};
 use crate::around::InEdges;
 use crate::around::leaving_edge;
-use plan::choice::pick_byte;
 use storage::edges::GraphSize;
+use storage::edges::consumer_of;
+use storage::edges::is_out_of;
+use storage::edges::loosen_if;
+use storage::edges::produce_if;
+use storage::edges::producer_of;
+use storage::edges::slot_of;
+use storage::steps::first_input;
 use storage::store::store_input;
 
 // The edges out of n, among the first `len`, are produced by `from`.
@@ -21,8 +27,8 @@ fn hand_on(edges: &mut [u8; 512], len: usize, n: u8, from: u8)
 {
     let mut k: usize = 0;
     while k < len {
-        let p = edges[k];
-        edges[k] = pick_byte(p == n, from, p);
+        let out_of = is_out_of(edges, k, n);
+        produce_if(edges, k, out_of, from);
         k = k + 1;
     }
 }
@@ -35,8 +41,8 @@ fn cut_off(edges: &mut [u8; 512], d: InEdges)
 {
     let mut k = d.from;
     while k < d.to {
-        edges[k] = 255;
-        edges[256 + k] = 1;
+        produce_if(edges, k, true, 255);
+        loosen_if(edges, k, true);
         k = k + 1;
     }
 }
@@ -47,7 +53,7 @@ fn producer_into(edges: &[u8; 512], d: InEdges) -> u8
     ensures { λ r. ⌜ ((ends : List ℕ) (len n : ℕ) → In-run ends len n d → producer-of r ≡ in-edge n (stored-edges ends (now (edges .entry)) len) .producer) ⌝ }
 {
     let k = d.from;
-    if k < d.to { edges[k] } else { 255 }
+    if k < d.to { producer_of(edges, k) } else { 255 }
 }
 
 // n's consumer takes n's input in its place, and what produces that is what produces its edge. Its out-edge is there, since it is
@@ -67,10 +73,9 @@ pub fn unlink_node(
     ensures { λ _. ⌜ Steps-held (now (steps .exit)) (size .steps) × (length (now (edges .exit)) ≡ 512) ⌝ }
 {
     let k = leaving_edge(edges, size.edges, n);
-    let c = ends[k] as usize;
-    let s = ends[256 + k] as usize;
-    let b = (n as usize) * 32;
-    let input = steps[b + 7];
+    let c = consumer_of(ends, k) as usize;
+    let s = slot_of(ends, k) as usize;
+    let input = first_input(steps, size.steps, n as usize);
     store_input(steps, size.steps, c, s, input);
     let from = producer_into(edges, d);
     hand_on(edges, size.edges, n, from);

@@ -167,13 +167,11 @@ module _ (recs line : List ℕ) (off : List Bool) (m : ℕ) (steps ends edges : 
   unfolding stored-edges
   number-there k h = omega (arith, length-table (stored-edge ends edges) 0 (size .edges))
 
-  consumer-there : (k : ℕ) → k < size .edges → getD ends k 0 < size .steps
-  unfolding stored-edge
+  consumer-there : (k : ℕ) → k < size .edges → stored-edge ends edges k .consumer < size .steps
   consumer-there k h =
       omega (arith, v .consumers k (number-there k h), ap (λ (d : Edge). d .consumer) (edge-is k h), length-steps steps (size .steps))
 
   pub edges-held : Edges-held steps size ends edges
-  unfolding stored-edge
   edges-held =
       record {
         few = held .few;
@@ -184,7 +182,7 @@ module _ (recs line : List ℕ) (off : List Bool) (m : ℕ) (steps ends edges : 
             omega (
               arith,
               rw (edge-is k h) at (v .slots k (number-there k h)),
-              its-n1 steps (size .steps) (getD ends k 0) (held .steps-held) (consumer-there k h),
+              its-n1 steps (size .steps) (stored-edge ends edges k .consumer) (held .steps-held) (consumer-there k h),
             );
       }
 

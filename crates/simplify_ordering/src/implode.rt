@@ -8,6 +8,8 @@ ghost use Rattle.storage.specs.Stored.{arena-of, stored-steps, Steps-held};
 ghost use Rattle.plan.specs.Visit.{implode, imploded, implode-over, with-aggs};
 ghost use Rattle.simplify_ordering.specs.Arena.{Arena-held};
 ghost use Rattle.storage.specs.Steps.{with-agg};
+use storage::exprs::is_scalar;
+use storage::records::store_implode;
 use storage::steps::aggs_of;
 use storage::store::store_agg;
 
@@ -16,8 +18,7 @@ fn is_scalar_ae(recs: &[u8; 2048], line: &[u8; 128], off: &[bool; 128], n: usize
     requires { ⌜ Arena-held (now recs) (now line) (now off) n × (q < n) ⌝ }
     ensures { λ r. ⌜ r ≡ expr-at (arena-of (now (recs .entry)) (now (line .entry)) (now (off .entry)) n) q .scalar ⌝ }
 {
-    let l = line[q as usize] as usize;
-    recs[l * 16 + 1] == 1
+    is_scalar(recs, line[q as usize])
 }
 
 // The arena's next record: an Implode over line q that maintains order.
@@ -33,13 +34,7 @@ pub fn append_implode(
     ensures { λ _. ⌜ arena-of (now (recs .exit)) (now (line .exit)) (now (off .exit)) (n + 1) ≡ arena-of (now (recs .entry)) (now (line .entry)) (now (off .entry)) n ++ (implode-over q ∷ []) ⌝ }
     ensures { λ _. ⌜ Arena-held (now (recs .exit)) (now (line .exit)) (now (off .exit)) (n + 1) ⌝ }
 {
-    let b = n * 16;
-    recs[b] = 23;
-    recs[b + 1] = 1;
-    recs[b + 2] = 0;
-    recs[b + 3] = 1;
-    recs[b + 4] = q;
-    recs[b + 12] = 1;
+    store_implode(recs, n, q);
     line[n] = n as u8;
     off[n] = false;
 }

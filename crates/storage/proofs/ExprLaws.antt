@@ -1,18 +1,23 @@
 -- What the bytes of an expression are as the definition has it.
-use mathlib.Core.Path.{_≡_, refl, _∙_}
+use mathlib.Core.Path.{_≡_, refl, sym, ap, _∙_}
 use Prim.Native.Nat.{ℕ, suc, _+_, _*_, _≤_, _<_}
 use native.Mathlib.Omega.{arith}
 use mathlib.Core.Bool.{Bool, true, false}
 use mathlib.Core.List.{List, [], _∷_, _++_}
 use lib.Dec.{eqb}
 use lib.ListN.{length, getD, take, drop}
-use lib.Seq.{drop-cons, take-append-le}
+use lib.Seq.{drop-cons, take-append-le, getD-take, getD-drop}
 use Rattle.plan.specs.declared.aexpr.AExpr.{AExpr}
 use Rattle.plan.specs.Kinds.{aexpr}
 use Rattle.plan.specs.Lists.{if_then_else_}
 use Rattle.plan.specs.Sheet.{expr-of}
 use Rattle.storage.specs.Stored.{stored-expr, Expr-formed}
 use Rattle.storage.specs.Exprs.{held, IsHeld}
+
+pub stored-scalar : (bytes : List ℕ) (l : ℕ) → eqb (getD bytes (l * 16 + 1) 0) 1 ≡ stored-expr bytes l .scalar
+unfolding stored-expr expr-of
+stored-scalar bytes l =
+    ap (λ (k : ℕ). eqb k 1) (sym (getD-take (4 + getD bytes (l * 16 + 12) 0) (drop (l * 16) bytes) 1 0 (omega arith) ∙ getD-drop (l * 16) bytes 1 0))
 
 module _ (b : List ℕ) (l : ℕ) (room : l * 16 + 16 ≤ length b) (formed : Expr-formed b l) where
   abbrev at : ℕ → ℕ

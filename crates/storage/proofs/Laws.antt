@@ -4,6 +4,7 @@ use mathlib.Core.List.{List, [], _∷_, _++_}
 use Prim.Native.Nat.{ℕ, zero, suc, _+_, _*_, _≤_, _<_}
 use native.Mathlib.Omega.{arith}
 use native.Mathlib.Nat.{not-suc-le-zero}
+use native.Mathlib.Numerals.{add-one}
 use mathlib.Core.Bool.{Bool}
 use lib.ListN.{length, getD, take, drop, length-take, length-drop}
 use lib.Seq.{take-add, getD-take, getD-drop}
@@ -36,6 +37,9 @@ module _ {A : Type 0} (f : ℕ → A) where
   table-more k zero = ap (λ (i : ℕ). f i ∷ []) (omega arith)
   table-more k (suc n) =
       ap (λ (l : List A). f k ∷ l) (table-more (suc k) n ∙ ap (λ (i : ℕ). table f (suc k) n ++ (f i ∷ [])) (omega arith))
+
+  pub one-entry-more : (n : ℕ) → table f 0 (n + 1) ≡ table f 0 n ++ (f n ∷ [])
+  one-entry-more n = let e : 0 + n ≡ n = omega arith in rw (add-one, table-more 0 n, e)
 
   -- in two parts
   pub table-split : (k m n : ℕ) → table f k (m + n) ≡ table f k m ++ table f (k + m) n

@@ -1,6 +1,8 @@
 pub mod Laws
 pub mod Changes
+pub mod RecordLaws
 pub mod Append
+pub mod ArenaLaws
 pub mod StepLaws
 pub mod StoreLaws
 pub mod EdgeStores

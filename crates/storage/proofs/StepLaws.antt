@@ -38,6 +38,10 @@ pub stored-kind : (bytes : List ℕ) (i : ℕ) → ir (getD bytes (i * 32) 0) �
 unfolding stored-step step-of
 stored-kind bytes i = ap ir (ap (λ (j : ℕ). getD bytes j 0) (omega arith) ∙ sym (getD-drop (i * 32) bytes 0 0))
 
+pub stored-a : (bytes : List ℕ) (i : ℕ) → getD bytes (i * 32 + 1) 0 ≡ stored-step bytes i .a
+unfolding stored-step step-of
+stored-a bytes i = sym (getD-drop (i * 32) bytes 1 0)
+
 -- A step's numbers -----------------------------------------------------------------------------------------------------------------
 
 module _ (bytes : List ℕ) (n i : ℕ) (held : Steps-held bytes n) (here : i < n) where
@@ -71,6 +75,14 @@ module _ (bytes : List ℕ) (n i : ℕ) (held : Steps-held bytes n) (here : i < 
   pub its-c : s .c ≡ at 3
   unfolding step-of
   its-c = ap (λ (x : Step). x .c) step-is ∙ number 3
+
+  pub first-input : 1 ≤ at 4 → at 7 ≡ getD (s .inputs) 0 0
+  unfolding step-of
+  first-input few =
+      let bs = drop (i * 32) bytes in
+      sym
+      (ap (λ (x : Step). getD (x .inputs) 0 0) step-is ∙ getD-take (getD bs 4 0) (drop 7 bs) 0 0 (rw (number 4) few) ∙ getD-drop 7 bs 0 0
+      ∙ number 7)
 
   -- the part of k bytes that stands after the first 7 + j
   part : (j k : ℕ) → take k (drop j (drop 7 (drop (i * 32) bytes))) ≡ take k (drop (i * 32 + (7 + j)) bytes)

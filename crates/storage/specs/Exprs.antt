@@ -1,5 +1,6 @@
--- What is read of a stored expression: the record of the definition that an ExprRecord is.
+-- What is read of a stored expression, the record of the definition that an ExprRecord is, and what is changed.
 use mathlib.Core.Path.{_≡_}
+use mathlib.Core.Logic.{_≢_}
 use Prim.Native.Nat.{ℕ, _≤_}
 use mathlib.Core.Bool.{Bool}
 use mathlib.Core.List.{List}
@@ -7,7 +8,7 @@ use lib.ListN.{length, take}
 use Rattle.plan.specs.Lists.{if_then_else_}
 use Rattle.plan.specs.Sheet.{Expr}
 use Rattle.plan.specs.Look.{switched-off}
-use Rattle.storage.specs.Stored.{stored-expr}
+use Rattle.storage.specs.Stored.{stored-expr, Expr-formed}
 use Rattle.storage.specs.declared.exprs.ExprRecord.{ExprRecord}
 
 abbrev pub record-of : ExprRecord → Expr
@@ -32,3 +33,10 @@ held bytes l off = if off then switched-off (stored-expr bytes l) else stored-ex
 pub record IsHeld (bytes : List ℕ) (l : ℕ) (off : Bool) (e : ExprRecord) : Type 0 where
   pub is : record-of e ≡ held bytes l off
   pub shaped : Shaped e
+
+-- record i is e now, and of the others each that was formed is as it was
+pub record Expr-stored (entry : List ℕ) (i : ℕ) (e : Expr) (exit : List ℕ) : Type 0 where
+  pub size : length exit ≡ length entry
+  pub is : stored-expr exit i ≡ e
+  pub formed : Expr-formed exit i
+  pub others : (j : ℕ) → j ≢ i → Expr-formed entry j → (stored-expr exit j ≡ stored-expr entry j) × Expr-formed exit j

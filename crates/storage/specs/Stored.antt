@@ -56,3 +56,10 @@ pub record Steps-held (bytes : List ℕ) (n : ℕ) : Type 0 where
   pub few : n ≤ 32
   pub size : length bytes ≡ 1024
   pub formed : (i : ℕ) → i < n → Step-formed bytes i
+
+-- the bytes hold n records, and each of n lines holds its own or a lower one
+pub record Lines-held (recs line : List ℕ) (n : ℕ) : Type 0 where
+  pub few : n ≤ 128
+  pub records : length recs ≡ 2048
+  pub formed : (l : ℕ) → l < n → Expr-formed recs l
+  pub below : (p : ℕ) → p < n → getD line p 0 ≤ p

@@ -1,7 +1,8 @@
 // What is read of a stored expression: the record that a line of the arena holds.
+ghost use mathlib.Core.Path.{_≡_};
 ghost use Prim.Native.Nat.{_+_, _*_, _<_, _≤_};
 ghost use lib.ListN.{length};
-ghost use Rattle.storage.specs.Stored.{Expr-formed};
+ghost use Rattle.storage.specs.Stored.{stored-expr, Expr-formed};
 ghost use Rattle.storage.specs.Exprs.{IsHeld};
 use plan::aexpr::AExpr;
 use plan::choice::pick_byte;
@@ -40,4 +41,12 @@ pub fn expr_of(recs: &[u8; 2048], l: u8, off: bool) -> ExprRecord
             recs[b + 11],
         ],
     }
+}
+
+pub fn is_scalar(recs: &[u8; 2048], l: u8) -> bool
+    requires { ⌜ l < 128 ⌝ }
+    ensures { λ r. ⌜ r ≡ stored-expr (now (recs .entry)) l .scalar ⌝ }
+{
+    let b = (l as usize) * 16;
+    recs[b + 1] == 1
 }

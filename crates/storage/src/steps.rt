@@ -1,7 +1,7 @@
-// What is read of a stored step: its kind and options, and its two lists of expressions.
+// What is read of a stored step: its kind and options, its first input, and its two lists of expressions.
 ghost use mathlib.Core.Path.{_≡_};
-ghost use Prim.Native.Nat.{_+_, _≤_, _<_};
-ghost use lib.ListN.{length, take, drop};
+ghost use Prim.Native.Nat.{_+_, _*_, _≤_, _<_};
+ghost use lib.ListN.{length, getD, take, drop};
 ghost use Rattle.plan.specs.declared.ir.IR.{IR};
 ghost use Rattle.plan.specs.Kinds.{same-ir};
 ghost use Rattle.plan.specs.Sheet.{step-at};
@@ -30,6 +30,22 @@ pub fn is_sink(steps: &[u8; 1024], i: usize) -> bool
     ensures { λ r. ⌜ r ≡ same-ir (stored-step (now (steps .entry)) i .kind) IR.Sink ⌝ }
 {
     kind_of(steps, i).number() == 2
+}
+
+// The id of a Cache.
+pub fn cache_id(steps: &[u8; 1024], i: usize) -> u8
+    requires { ⌜ i < 32 ⌝ }
+    ensures { λ r. ⌜ r ≡ stored-step (now (steps .entry)) i .a ⌝ }
+{
+    steps[i * 32 + 1]
+}
+
+// The first input of a step that has one.
+pub fn first_input(steps: &[u8; 1024], n: usize, i: usize) -> u8
+    requires { ⌜ Steps-held (now steps) n × (i < n) × (1 ≤ getD (now steps) (i * 32 + 4) 0) ⌝ }
+    ensures { λ r. ⌜ r ≡ getD (step-at (stored-steps (now (steps .entry)) n) i .inputs) 0 0 ⌝ }
+{
+    steps[i * 32 + 7]
 }
 
 // A list of expressions: the first `count` of the nodes.

@@ -8,6 +8,9 @@ ghost use Rattle.storage.specs.Stored.{stored-expr, stored-step, stored-exprs, 
 ghost use Rattle.writing.specs.Wrote.{Wrote};
 use crate::lines::put_edge;
 use crate::lines::put_line;
+use storage::edges::consumer_of;
+use storage::edges::is_unordered;
+use storage::edges::slot_of;
 
 // The E line that is stored as number i.
 pub fn put_expr(out: &mut [u8], exprs: &[u8; 2048], i: usize) -> usize
@@ -79,7 +82,10 @@ pub fn put_edges(out: &mut [u8], ends: &[u8; 544], edges: &[u8; 512], n: usize) 
     let mut len: usize = 0;
     let mut i: usize = 0;
     while i < n {
-        let k = put_edge(&mut out[len..], ends[i], ends[256 + i], edges[256 + i] == 1);
+        let consumer = consumer_of(ends, i);
+        let slot = slot_of(ends, i);
+        let unordered = is_unordered(edges, i);
+        let k = put_edge(&mut out[len..], consumer, slot, unordered);
         len = len + k;
         i = i + 1;
     }

@@ -1,5 +1,5 @@
-use native.Mathlib.Omega.{arith}
 use Prim.Native.Nat.{_-_}
+use native.Mathlib.Omega.{arith}
 use Rattle.cases.proofs.graph.pairs_begin.Statement.{statement}
 use Rattle.cases.proofs.graph.pairs_begin.Tie as tie
 
@@ -12,8 +12,8 @@ abbrev μ-loop : tie.MeasureT-loop
 loop-holds : tie.Need-loop-holds Inv-loop μ-loop
 loop-holds c = tt
 
-element-copy-out-if1 : tie.Need-element-copy-out-if1 Inv-loop μ-loop
-element-copy-out-if1 c = omega arith
+consumer-of-requires : tie.Need-consumer-of-requires Inv-loop μ-loop
+consumer-of-requires c κs = omega arith
 
 add-if1 : tie.Need-add-if1 Inv-loop μ-loop
 add-if1 c = omega arith
@@ -24,17 +24,14 @@ shared-slice-read-if1 c = omega arith
 returns : tie.Need-returns Inv-loop μ-loop
 returns c = tt
 
+slot-of-requires : tie.Need-slot-of-requires Inv-loop μ-loop
+slot-of-requires c κs = omega arith
+
 add-if2 : tie.Need-add-if2 Inv-loop μ-loop
 add-if2 c = omega arith
 
-element-copy-out-if2 : tie.Need-element-copy-out-if2 Inv-loop μ-loop
-element-copy-out-if2 c = omega arith
-
 add-if2-2 : tie.Need-add-if2-2 Inv-loop μ-loop
 add-if2-2 c = omega arith
-
-add-if2-3 : tie.Need-add-if2-3 Inv-loop μ-loop
-add-if2-3 c = omega arith
 
 shared-slice-read-if2 : tie.Need-shared-slice-read-if2 Inv-loop μ-loop
 shared-slice-read-if2 c = omega arith
@@ -61,14 +58,13 @@ pairs-begin-spec =
     Inv-loop
     μ-loop
     loop-holds
-    element-copy-out-if1
+    consumer-of-requires
     add-if1
     shared-slice-read-if1
     returns
+    slot-of-requires
     add-if2
-    element-copy-out-if2
     add-if2-2
-    add-if2-3
     shared-slice-read-if2
     returns-2
     add-i

@@ -5,7 +5,9 @@ use Rattle.engine.proofs.run.write_run.Statement.{statement}
 use Rattle.engine.proofs.run.write_run.Tie as tie
 
 store-lines-requires : tie.Need-store-lines-requires
-store-lines-requires c κs = search needs
+store-lines-requires c κs =
+    let a = c .before .before .pre .1 .arena in
+    record { few = a .based .few; records = a .records; formed = a .based .formed; below = a .below }
 
 put-finished-requires : tie.Need-put-finished-requires
 put-finished-requires c κs =

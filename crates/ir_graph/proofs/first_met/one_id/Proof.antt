@@ -26,23 +26,11 @@ returns-2 c =
     other-second (now (s .args .steps)) (s .args .n) (s .args .k) (s .args .m) (s .pre .1) (s .pre .2)
     (sym (i .ensures) ∙ not-false (i .result) (c .before .before .if1 .left)) (sym (j .ensures) ∙ not-true (j .result) (c .if2 .taken))
 
-mul-result : tie.Need-mul-result
-mul-result c = search needs
+cache-id-requires : tie.Need-cache-id-requires
+cache-id-requires c κs = search needs
 
-add-result : tie.Need-add-result
-add-result c = search needs
-
-element-copy-out-result : tie.Need-element-copy-out-result
-element-copy-out-result c = search needs
-
-mul-result-2 : tie.Need-mul-result-2
-mul-result-2 c = search needs
-
-add-result-2 : tie.Need-add-result-2
-add-result-2 c = search needs
-
-element-copy-out-result-2 : tie.Need-element-copy-out-result-2
-element-copy-out-result-2 c = search needs
+cache-id-requires-2 : tie.Need-cache-id-requires-2
+cache-id-requires-2 c κs = search needs
 
 returns-3 : tie.Need-returns-3
 returns-3 c =
@@ -51,6 +39,7 @@ returns-3 c =
     let j = c .before .before .before .is-cache2 in
     by-id (now (s .args .steps)) (s .args .n) (s .args .k) (s .args .m) (s .pre .1) (s .pre .2)
     (sym (i .ensures) ∙ not-false (i .result) (c .before .before .before .before .if1 .left)) (sym (j .ensures) ∙ not-false (j .result) (c .before .before .if2 .left))
+    (c .before .cache-id .ensures) (c .cache-id2 .ensures)
 
 pub one-id-spec : {M : Type 1} → statement M
 one-id-spec =
@@ -60,10 +49,6 @@ one-id-spec =
     returns
     is-cache-requires-2
     returns-2
-    mul-result
-    add-result
-    element-copy-out-result
-    mul-result-2
-    add-result-2
-    element-copy-out-result-2
+    cache-id-requires
+    cache-id-requires-2
     returns-3)

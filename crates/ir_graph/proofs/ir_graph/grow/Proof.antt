@@ -1,5 +1,5 @@
 use denote.Ref.{now}
-use Prim.Native.Nat.{_+_, _-_, _≤_}
+use Prim.Native.Nat.{_+_, _-_, _<_}
 use native.Mathlib.Omega.{arith}
 use borrow.Author.Needs.{needs}
 use lib.ListN.{length, getD}
@@ -17,15 +17,15 @@ Inv-loop steps n hits₀ places₀ ends₀ edges₀ len₀ made₀ i₀ hits pla
 abbrev μ-loop : tie.MeasureT-loop
 μ-loop steps n hits₀ places₀ ends₀ edges₀ len₀ made₀ i₀ hits places ends edges len made i = length (sinks (stored-steps steps n)) + length (named (stored-steps steps n)) - i
 
-small : (c : tie.In-loop Inv-loop μ-loop) → c .before .before .before .before .before .before .before .before .args .n ≤ 32
-small c = c .before .before .before .before .before .before .before .before .pre .0
-
 turn-in : (c : tie.In-loop Inv-loop μ-loop)
     → Turn (now (c .before .before .before .before .before .before .before .before .args .steps)) (c .before .before .before .before .before .before .before .before .args .n) (c .before .loop .hits) (c .before .loop .len) (c .before .loop .made)
     (getD (c .before .loop .places) (c .before .loop .i) 0)
 turn-in c =
     let s = c .before .before .before .before .before .before .before .before in
     turn-at (now (s .args .steps)) (s .args .n) (s .pre .0) (s .pre .1 .0) (s .pre .1 .1 .0) (c .before .loop .inv) (c .loop-test .taken)
+
+few-steps : (c : tie.In-loop Inv-loop μ-loop) → getD (c .before .loop .places) (c .before .loop .i) 0 < 32
+few-steps c = omega (arith, turn-in c .there, c .before .before .before .before .before .before .before .before .pre .0)
 
 size-288-requires : tie.Need-size-288-requires Inv-loop μ-loop
 size-288-requires c κs = search needs
@@ -45,29 +45,24 @@ loop-holds c =
 element-copy-out-current : tie.Need-element-copy-out-current Inv-loop μ-loop
 element-copy-out-current c = omega (arith, c .before .loop .inv .growing .fits)
 
-cast-ends : tie.Need-cast-ends Inv-loop μ-loop
-cast-ends c = let t = turn-in (c .before) in omega (arith, t .edges)
+cast-store-first-into : tie.Need-cast-store-first-into Inv-loop μ-loop
+cast-store-first-into c = omega (arith, turn-in (c .before .before) .edges)
 
-cast-ends-2 : tie.Need-cast-ends-2 Inv-loop μ-loop
-cast-ends-2 c = let t = turn-in (c .before) in omega (arith, t .there, small (c .before))
-
-add-ends : tie.Need-add-ends Inv-loop μ-loop
-add-ends c = let t = turn-in (c .before) in omega (arith, t .there, small (c .before))
-
-element-write-ends : tie.Need-element-write-ends Inv-loop μ-loop
-element-write-ends c = let t = turn-in (c .before) in omega (arith, t .there, small (c .before))
+store-first-into-requires : tie.Need-store-first-into-requires Inv-loop μ-loop
+store-first-into-requires c κs = few-steps (c .before .before)
 
 cast-follow : tie.Need-cast-follow Inv-loop μ-loop
-cast-follow c = let t = turn-in (c .before) in omega (arith, t .there, small (c .before))
+cast-follow c = omega (arith, few-steps (c .before .before .before))
 
 follow-requires : tie.Need-follow-requires Inv-loop μ-loop
 follow-requires c κs =
-    let t = turn-in (c .before .before .before) in
-    (omega (arith, t .there, small (c .before .before .before)), (t .formed, (t .hit, omega (arith, t .places))))
+    let r = c .before .before .before .before .before in
+    let t = turn-in r in
+    (few-steps r, (t .formed, (t .hit, omega (arith, t .places))))
 
 link-requires : tie.Need-link-requires Inv-loop μ-loop
 link-requires c κs =
-    let r = c .before .before .before .before .before .before .before in
+    let r = c .before .before .before .before .before .before .before .before .before in
     let t = turn-in r in
     let f = c .before .before .before .follow .ensures in
     let s = r .before .before .before .before .before .before .before .before in (
@@ -80,22 +75,23 @@ link-requires c κs =
 
 add-i : tie.Need-add-i Inv-loop μ-loop
 add-i c =
-    let r = c .before .before .before .before .before .before .before .before in
+    let r = c .before .before .before .before .before .before .before .before .before .before in
     let t = turn-in r in
     omega (arith, t .places, r .loop-test .taken)
 
 loop-less : tie.Need-loop-less Inv-loop μ-loop
 loop-less c =
-    let r = c .before .before .before .before .before .before .before .before in
+    let r = c .before .before .before .before .before .before .before .before .before .before in
     let s = r .before .before .before .before .before .before .before .before in
     omega (arith, places-left (now (s .args .steps)) (s .args .n) (s .pre .0) (s .pre .1 .0) (s .pre .1 .1 .0) (r .before .loop .inv) (r .loop-test .taken))
 
 loop-again : tie.Need-loop-again Inv-loop μ-loop
 loop-again c =
-    let r = c .before .before .before .before .before .before .before .before in
+    let r = c .before .before .before .before .before .before .before .before .before .before in
     let s = r .before .before .before .before .before .before .before .before in
     let f = c .before .before .before .before .follow .ensures in
-    placing-next (now (s .args .steps)) (s .args .n) (s .pre .0) (s .pre .1 .0) (s .pre .1 .1 .0) (r .before .loop .inv) (r .loop-test .taken) (f .0) (f .1) (c .link .ensures)
+    let (same, first) = c .before .before .before .before .before .before .before .store-first-into .ensures in
+    placing-next (now (s .args .steps)) (s .args .n) (s .pre .0) (s .pre .1 .0) (s .pre .1 .1 .0) (r .before .loop .inv) (r .loop-test .taken) (f .0) (f .1) same first (c .link .ensures)
 
 returns : tie.Need-returns Inv-loop μ-loop
 returns c =
@@ -113,10 +109,8 @@ grow-spec =
     push-roots-requires
     loop-holds
     element-copy-out-current
-    cast-ends
-    cast-ends-2
-    add-ends
-    element-write-ends
+    cast-store-first-into
+    store-first-into-requires
     cast-follow
     follow-requires
     link-requires

@@ -1,10 +1,10 @@
 use mathlib.Core.Path.{_≡_}
 use denote.Ref.{now}
-use Prim.Native.Nat.{ℕ, _-_, _≤_, _<_}
+use Prim.Native.Nat.{_-_, _≤_}
 use native.Mathlib.Omega.{arith}
 use borrow.Author.Needs.{needs}
 use lib.ListN.{take}
-use Rattle.storage.specs.Stored.{stored-steps, Step-formed}
+use Rattle.storage.specs.Stored.{stored-steps, Steps-held}
 use Rattle.storage.proofs.Laws.{length-steps}
 use Rattle.ir_graph.specs.UpdateCaches.{Updatable}
 use Rattle.ir_graph.proofs.UpdateCaches.{update-lines, no-lines, next-line, all-lines}
@@ -13,19 +13,19 @@ use Rattle.ir_graph.proofs.update_cache_nodes.update_cache_nodes.Tie as
 
 abbrev Inv-loop : tie.InvT-loop
 Inv-loop steps₀ n first m₀ steps m =
-    (m ≤ n) × ((i : ℕ) → i < n → Step-formed steps i) × Updatable (take n first) (stored-steps steps n)
+    (m ≤ n) × Steps-held steps n × Updatable (take n first) (stored-steps steps n)
     × (stored-steps steps n ≡ update-lines (take n first) (stored-steps steps₀ n) m)
 
 abbrev μ-loop : tie.MeasureT-loop
 μ-loop steps₀ n first m₀ steps m = n - m
 
 loop-holds : tie.Need-loop-holds Inv-loop μ-loop
-loop-holds c = (omega arith, c .pre .1 .0, c .pre .1 .1, no-lines _ _)
+loop-holds c = (omega arith, c .pre .0, c .pre .1, no-lines _ _)
 
 update-cache-node-requires : tie.Need-update-cache-node-requires Inv-loop μ-loop
 update-cache-node-requires c κs =
     let l = c .before .before .loop in
-    ((c .before .before .before .pre .0, c .before .loop-test .taken), (l .inv .1, l .inv .2))
+    ((l .inv .1, c .before .loop-test .taken), l .inv .2)
 
 add-m : tie.Need-add-m Inv-loop μ-loop
 add-m c = search needs
@@ -44,7 +44,7 @@ returns : tie.Need-returns Inv-loop μ-loop
 returns c =
     let s = c .before .before in
     let l = c .before .loop in
-    (all-lines _ _ (s .pre .1 .1) (l .m) (omega (arith, length-steps (now (s .args .steps)) (s .args .n))) (l .inv .3), l .inv .1)
+    (all-lines _ _ (s .pre .1) (l .m) (omega (arith, length-steps (now (s .args .steps)) (s .args .n))) (l .inv .3), l .inv .1)
 
 pub update-cache-nodes-spec : {M : Type 1} → statement M
 update-cache-nodes-spec =

@@ -16,11 +16,8 @@ abbrev μ-loop : tie.MeasureT-loop
 loop-holds : tie.Need-loop-holds Inv-loop μ-loop
 loop-holds c = (omega arith, omega arith, all-none (now (c .args .edges)) (c .args .d .from))
 
-add-r : tie.Need-add-r Inv-loop μ-loop
-add-r c = search needs
-
-element-copy-out-r : tie.Need-element-copy-out-r Inv-loop μ-loop
-element-copy-out-r c = search needs
+is-unordered-requires : tie.Need-is-unordered-requires Inv-loop μ-loop
+is-unordered-requires c κs = search needs
 
 add-k : tie.Need-add-k Inv-loop μ-loop
 add-k c = search needs
@@ -32,7 +29,7 @@ loop-again : tie.Need-loop-again Inv-loop μ-loop
 loop-again c =
     let a = c .before .before .before .before .args in
     let l = c .before .before .before .loop in
-    (omega arith, omega arith, all-next (now (a .edges)) (a .d .from) (l .k) (l .r) (l .inv .0) (l .inv .2))
+    (omega arith, omega arith, rw (c .is-unordered .ensures) (all-next (now (a .edges)) (a .d .from) (l .k) (l .r) (l .inv .0) (l .inv .2)))
 
 returns : tie.Need-returns Inv-loop μ-loop
 returns c =
@@ -44,13 +41,4 @@ returns c =
 pub all-unordered-spec : {M : Type 1} → statement M
 all-unordered-spec =
     tie.close
-    (tie.spec
-    Inv-loop
-    μ-loop
-    loop-holds
-    add-r
-    element-copy-out-r
-    add-k
-    loop-less
-    loop-again
-    returns)
+    (tie.spec Inv-loop μ-loop loop-holds is-unordered-requires add-k loop-less loop-again returns)

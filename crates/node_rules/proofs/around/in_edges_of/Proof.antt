@@ -1,6 +1,8 @@
-use mathlib.Core.Path.{_≡_, refl}
+use mathlib.Core.Path.{_≡_, sym, _∙_}
+use mathlib.Core.List.{[]}
 use Prim.Native.Nat.{_+_, _-_}
 use lib.ListN.{getD}
+use Rattle.storage.specs.Edges.{stored-edge}
 use Rattle.node_rules.proofs.InEdges.{Through, through-none, through-next, ends-here, ends-last}
 use borrow.Author.Needs.{needs}
 use denote.Ref.{now}
@@ -13,11 +15,8 @@ Inv-loop ends len n from to₀ to = (from ≡ getD ends (512 + n) 0) × Through 
 abbrev μ-loop : tie.MeasureT-loop
 μ-loop ends len n from to₀ to = len - to
 
-add-from : tie.Need-add-from Inv-loop μ-loop
-add-from c = search needs
-
-element-copy-out-from : tie.Need-element-copy-out-from Inv-loop μ-loop
-element-copy-out-from c = search needs
+first-into-requires : tie.Need-first-into-requires Inv-loop μ-loop
+first-into-requires c κs = search needs
 
 cast-from : tie.Need-cast-from Inv-loop μ-loop
 cast-from c = search needs
@@ -25,16 +24,18 @@ cast-from c = search needs
 loop-holds : tie.Need-loop-holds Inv-loop μ-loop
 loop-holds c =
     let s = c .before in
-    (refl, through-none (now (s .args .ends)) (s .args .len) (s .args .n) (s .pre .2))
+    let e = c .first-into .ensures in
+    (e, rw e (through-none (now (s .args .ends)) (s .args .len) (s .args .n) (s .pre .2)))
 
-element-copy-out-if1 : tie.Need-element-copy-out-if1 Inv-loop μ-loop
-element-copy-out-if1 c = search needs
+consumer-of-requires : tie.Need-consumer-of-requires Inv-loop μ-loop
+consumer-of-requires c κs = search needs
 
 returns : tie.Need-returns Inv-loop μ-loop
+unfolding stored-edge
 returns c =
     let s = c .before .before .before .before .before in
     let l = c .before .before .before .loop in
-    ends-here (now (s .args .ends)) (s .args .len) (s .args .n) (s .pre .2) (l .to) (l .inv .1) (c .if1 .taken)
+    rw (l .inv .0) (ends-here (now (s .args .ends)) (s .args .len) (s .args .n) (s .pre .2) (l .to) (l .inv .1) (rw (c .before .consumer-of .ensures []) at (c .if1 .taken)))
 
 add-to : tie.Need-add-to Inv-loop μ-loop
 add-to c = search needs
@@ -43,15 +44,17 @@ loop-less : tie.Need-loop-less Inv-loop μ-loop
 loop-less c = search needs
 
 loop-again : tie.Need-loop-again Inv-loop μ-loop
+unfolding stored-edge
 loop-again c =
     let s = c .before .before .before .before .before in
     let l = c .before .before .before .loop in
-    (refl, through-next (now (s .args .ends)) (s .args .len) (s .args .n) (s .pre .2) (l .to) (c .before .before .loop-test .taken) (c .if1 .left) (l .inv .1))
+    (l .inv .0, through-next (now (s .args .ends)) (s .args .len) (s .args .n) (s .pre .2) (l .to) (c .before .before .loop-test .taken) (sym (c .before .consumer-of .ensures []) ∙ c .if1 .left) (l .inv .1))
 
 returns-2 : tie.Need-returns-2 Inv-loop μ-loop
 returns-2 c =
     let s = c .before .before .before in
-    ends-last (now (s .args .ends)) (s .args .len) (s .args .n) (s .pre .2) (c .before .loop .to) (c .before .loop .inv .1) (c .loop-test .left)
+    let l = c .before .loop in
+    rw (l .inv .0) (ends-last (now (s .args .ends)) (s .args .len) (s .args .n) (s .pre .2) (l .to) (l .inv .1) (c .loop-test .left))
 
 pub in-edges-of-spec : {M : Type 1} → statement M
 in-edges-of-spec =
@@ -59,11 +62,10 @@ in-edges-of-spec =
     (tie.spec
     Inv-loop
     μ-loop
-    add-from
-    element-copy-out-from
+    first-into-requires
     cast-from
     loop-holds
-    element-copy-out-if1
+    consumer-of-requires
     returns
     add-to
     loop-less

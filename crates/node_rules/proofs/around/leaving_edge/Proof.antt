@@ -1,15 +1,15 @@
-use denote.Ref.{now}
-use native.Mathlib.Omega.{arith}
+use mathlib.Core.Path.{sym, _∙_}
 use mathlib.Core.List.{List}
-use Prim.Native.Nat.{ℕ, _-_, _≤_, _<_}
+use Prim.Native.Nat.{ℕ, _-_, _≤_}
 use Rattle.node_rules.proofs.OutEdges.{Leaves-from, leaves-start, leaves-here, leaves-later, none-leaves}
 use borrow.Author.Needs.{needs}
+use native.Mathlib.Omega.{arith}
+use denote.Ref.{now}
 use Rattle.node_rules.proofs.around.leaving_edge.Statement.{statement}
 use Rattle.node_rules.proofs.around.leaving_edge.Tie as tie
 
 abbrev Inv-loop : tie.InvT-loop
-Inv-loop edges len n k₀ k =
-    (k ≤ len) × ((ends : List ℕ) (small : n < 32) → Leaves-from ends edges len n small k)
+Inv-loop edges len n k₀ k = (k ≤ len) × ((ends : List ℕ) → Leaves-from ends edges len n k)
 
 abbrev μ-loop : tie.MeasureT-loop
 μ-loop edges len n k₀ k = len - k
@@ -17,18 +17,16 @@ abbrev μ-loop : tie.MeasureT-loop
 loop-holds : tie.Need-loop-holds Inv-loop μ-loop
 loop-holds c =
     let a = c .args in
-    (omega arith, λ ends small. leaves-start ends (now (a .edges)) (a .len) (a .n) small)
+    (omega arith, λ ends. leaves-start ends (now (a .edges)) (a .len) (a .n))
 
-element-copy-out-if1 : tie.Need-element-copy-out-if1 Inv-loop μ-loop
-element-copy-out-if1 c = search needs
+is-out-of-requires : tie.Need-is-out-of-requires Inv-loop μ-loop
+is-out-of-requires c κs = search needs
 
 returns : tie.Need-returns Inv-loop μ-loop
 returns c =
-    let s = c .before .before .before .before in
-    let l = c .before .before .before .loop in (
-      (λ ends. leaves-here ends (now (s .args .edges)) (s .args .len) (s .args .n) (s .pre .1) (l .k) (c .before .before .loop-test .taken) (c .if1 .taken) (l .inv .1 ends (s .pre .1))),
-      l .inv .0,
-    )
+    let a = c .before .before .before .before .args in
+    let l = c .before .before .before .loop in
+    ((λ ends. leaves-here ends (now (a .edges)) (a .len) (a .n) (l .k) (c .before .before .loop-test .taken) (sym (c .before .is-out-of .ensures ends) ∙ c .if1 .taken) (l .inv .1 ends)), l .inv .0)
 
 add-k : tie.Need-add-k Inv-loop μ-loop
 add-k c = search needs
@@ -38,19 +36,15 @@ loop-less c = search needs
 
 loop-again : tie.Need-loop-again Inv-loop μ-loop
 loop-again c =
-    let s = c .before .before .before .before in
-    let l = c .before .before .before .loop in (
-      omega arith,
-      λ ends small. leaves-later ends (now (s .args .edges)) (s .args .len) (s .args .n) small (l .k) (c .before .before .loop-test .taken) (c .if1 .left) (l .inv .1 ends small),
-    )
+    let a = c .before .before .before .before .args in
+    let l = c .before .before .before .loop in
+    (omega arith, λ ends. leaves-later ends (now (a .edges)) (a .len) (a .n) (l .k) (c .before .before .loop-test .taken) (sym (c .before .is-out-of .ensures ends) ∙ c .if1 .left) (l .inv .1 ends))
 
 returns-2 : tie.Need-returns-2 Inv-loop μ-loop
 returns-2 c =
-    let s = c .before .before in
-    let l = c .before .loop in (
-      (λ ends. none-leaves ends (now (s .args .edges)) (s .args .len) (s .args .n) (s .pre .1) (l .k) (omega (arith, l .inv .0, c .loop-test .left)) (l .inv .1 ends (s .pre .1))),
-      l .inv .0,
-    )
+    let a = c .before .before .args in
+    let l = c .before .loop in
+    ((λ ends. none-leaves ends (now (a .edges)) (a .len) (a .n) (l .k) (omega (arith, l .inv .0, c .loop-test .left)) (l .inv .1 ends)), l .inv .0)
 
 pub leaving-edge-spec : {M : Type 1} → statement M
 leaving-edge-spec =
@@ -59,7 +53,7 @@ leaving-edge-spec =
     Inv-loop
     μ-loop
     loop-holds
-    element-copy-out-if1
+    is-out-of-requires
     returns
     add-k
     loop-less

@@ -1,10 +1,12 @@
 use mathlib.Core.Path.{_≡_, refl, ap, _∙_}
 use mathlib.Core.Bool.{Bool}
-use Prim.Native.Nat.{_+_, _-_, _≤_}
-use lib.ListN.{length, getD, length-set}
+use Prim.Native.Nat.{ℕ, _-_, _≤_}
+use lib.Dec.{eqb}
+use lib.ListN.{length}
 use Rattle.plan.specs.Lists.{if_then_else_}
+use Rattle.storage.specs.Edges.{stored-edge, loosened-if}
 use Rattle.node_rules.specs.Held.{ins-of}
-use Rattle.node_rules.proofs.EdgeChanges.{Changed, none-changed, neither, none-loosened, in-loosened, next-in, ins-loosened}
+use Rattle.node_rules.proofs.EdgeChanges.{Changed, none-changed, one-changed, neither, none-loosened, in-loosened, ins-loosened}
 use borrow.Author.Needs.{needs}
 use native.Mathlib.Omega.{arith}
 use denote.Ref.{now}
@@ -28,29 +30,14 @@ loop-holds c =
     let s = c .before .before in
     (omega arith, omega arith, s .pre .2, none-changed _ (now (s .args .ends)) (now (s .args .edges)) (s .args .d .from))
 
-add-u : tie.Need-add-u Inv-loop μ-loop
-add-u c = search needs
-
-element-copy-out-u : tie.Need-element-copy-out-u Inv-loop μ-loop
-element-copy-out-u c = search needs
-
-add-loosened-in : tie.Need-add-loosened-in Inv-loop μ-loop
-add-loosened-in c = search needs
-
-element-copy-out-loosened-in : tie.Need-element-copy-out-loosened-in Inv-loop μ-loop
-element-copy-out-loosened-in c = search needs
+slot-of-requires : tie.Need-slot-of-requires Inv-loop μ-loop
+slot-of-requires c κs = search needs
 
 loosened-in-requires : tie.Need-loosened-in-requires Inv-loop μ-loop
 loosened-in-requires c κs = search needs
 
-pick-byte-requires : tie.Need-pick-byte-requires Inv-loop μ-loop
-pick-byte-requires c κs = search needs
-
-add-edges : tie.Need-add-edges Inv-loop μ-loop
-add-edges c = search needs
-
-element-write-edges : tie.Need-element-write-edges Inv-loop μ-loop
-element-write-edges c = search needs
+loosen-if-requires : tie.Need-loosen-if-requires Inv-loop μ-loop
+loosen-if-requires c κs = search needs
 
 add-k : tie.Need-add-k Inv-loop μ-loop
 add-k c = search needs
@@ -62,20 +49,20 @@ loop-again : tie.Need-loop-again Inv-loop μ-loop
 loop-again c =
     let a = c .before .before .before .before .before .before .before .before .before .args in
     let l = c .before .before .before .before .before .before .loop in
-    let v = c .pick-byte .ensures ∙ ap (λ (b : Bool). if b then 1 else getD (l .edges) (256 + l .k) 0) (c .before .loosened-in .ensures) in (
+    let slot = c .before .before .slot-of .ensures (l .edges) in
+    let b = c .before .loosened-in .ensures ∙ ap (λ (s : ℕ). if eqb s 0 then a .l .in0 else a .l .later) slot in
+    let d = stored-edge (now (a .ends)) (l .edges) (l .k) in (
       omega arith,
       omega arith,
-      simp length-set (omega arith),
-      next-in (now (a .ends)) (now (a .edges)) (a .d .from) (l .edges) (l .k) _ (omega arith) (omega arith) (l .inv .2) (a .l) v (l .inv .3),
+      c .loosen-if .ensures .1,
+      one-changed (in-loosened (a .l)) (now (a .ends)) (now (a .edges)) (a .d .from) (l .edges) _ (l .k) (omega arith) (omega arith) _ (c .loosen-if .ensures .0 (now (a .ends))) (ap (λ (x : Bool). loosened-if x d) b) (l .inv .3),
     )
 
 returns-2 : tie.Need-returns-2 Inv-loop μ-loop
 returns-2 c =
     let a = c .before .before .before .before .before .args in
-    let l = c .before .before .loop in (
-      (λ len n few run. ins-loosened (now (a .ends)) (now (a .edges)) (l .edges) len n few (a .d) run (l .k) (c .if2 .left) (l .inv .1) (a .l) (l .inv .3)),
-      l .inv .2,
-    )
+    let l = c .before .before .loop in
+    ((λ len n few run. ins-loosened (now (a .ends)) (now (a .edges)) (l .edges) len n few (a .d) run (l .k) (c .if2 .left) (l .inv .1) (a .l) (l .inv .3)), l .inv .2)
 
 pub loosen-in-spec : {M : Type 1} → statement M
 loosen-in-spec =
@@ -85,14 +72,9 @@ loosen-in-spec =
     μ-loop
     returns
     loop-holds
-    add-u
-    element-copy-out-u
-    add-loosened-in
-    element-copy-out-loosened-in
+    slot-of-requires
     loosened-in-requires
-    pick-byte-requires
-    add-edges
-    element-write-edges
+    loosen-if-requires
     add-k
     loop-less
     loop-again

@@ -2,11 +2,12 @@ use mathlib.Core.Path.{_≡_, refl}
 use mathlib.Core.Bool.{true}
 use mathlib.Core.List.{List}
 use Prim.Native.Nat.{ℕ, _-_, _≤_}
-use lib.ListN.{length, length-set}
-use Rattle.plan.specs.Visit.{loosened}
-use Rattle.node_rules.specs.Held.{outs-of}
-use Rattle.node_rules.proofs.EdgeChanges.{Changed, none-changed, all-changed, none-loosened, next-out}
 use borrow.Author.Tests.{not-true, not-false}
+use lib.ListN.{length}
+use Rattle.plan.specs.Visit.{loosened}
+use Rattle.storage.specs.Edges.{stored-edge}
+use Rattle.node_rules.specs.Held.{outs-of}
+use Rattle.node_rules.proofs.EdgeChanges.{Changed, none-changed, one-changed, all-changed, none-loosened, out-loosened}
 use borrow.Author.Needs.{needs}
 use native.Mathlib.Omega.{arith}
 use denote.Ref.{now}
@@ -29,23 +30,11 @@ loop-holds c =
     let s = c .before in
     (omega arith, s .pre .2, λ ends. none-changed _ ends (now (s .args .edges)) 0)
 
-add-u : tie.Need-add-u Inv-loop μ-loop
-add-u c = search needs
+is-out-of-requires : tie.Need-is-out-of-requires Inv-loop μ-loop
+is-out-of-requires c κs = search needs
 
-element-copy-out-u : tie.Need-element-copy-out-u Inv-loop μ-loop
-element-copy-out-u c = search needs
-
-element-copy-out-pick-byte : tie.Need-element-copy-out-pick-byte Inv-loop μ-loop
-element-copy-out-pick-byte c = search needs
-
-pick-byte-requires : tie.Need-pick-byte-requires Inv-loop μ-loop
-pick-byte-requires c κs = search needs
-
-add-edges : tie.Need-add-edges Inv-loop μ-loop
-add-edges c = search needs
-
-element-write-edges : tie.Need-element-write-edges Inv-loop μ-loop
-element-write-edges c = search needs
+loosen-if-requires : tie.Need-loosen-if-requires Inv-loop μ-loop
+loosen-if-requires c κs = search needs
 
 add-k : tie.Need-add-k Inv-loop μ-loop
 add-k c = search needs
@@ -55,11 +44,12 @@ loop-less c = search needs
 
 loop-again : tie.Need-loop-again Inv-loop μ-loop
 loop-again c =
-    let s = c .before .before .before .before .before .before in
-    let l = c .before .before .before .before .loop in (
+    let a = c .before .before .before .before .before .before .before .args in
+    let l = c .before .before .before .before .before .loop in (
       omega arith,
-      simp length-set (omega arith),
-      λ ends. next-out ends (now (s .args .edges)) 0 (l .edges) (l .k) _ (omega arith) (omega arith) (l .inv .1) (s .args .n) (s .pre .1) (c .pick-byte .ensures) (l .inv .2 ends),
+      c .loosen-if .ensures .1,
+      λ ends. one-changed (loosened (a .n) (outs-of true)) ends (now (a .edges)) 0 (l .edges) _ (l .k) (omega arith) (omega arith) _ (c .loosen-if .ensures .0 ends)
+          (out-loosened (a .n) (stored-edge ends (l .edges) (l .k)) _ (c .before .before .is-out-of .ensures ends)) (l .inv .2 ends),
     )
 
 returns-2 : tie.Need-returns-2 Inv-loop μ-loop
@@ -79,12 +69,8 @@ loosen-out-spec =
     μ-loop
     returns
     loop-holds
-    add-u
-    element-copy-out-u
-    element-copy-out-pick-byte
-    pick-byte-requires
-    add-edges
-    element-write-edges
+    is-out-of-requires
+    loosen-if-requires
     add-k
     loop-less
     loop-again

@@ -1,8 +1,8 @@
-use mathlib.Core.Path.{_≡_}
+use mathlib.Core.Path.{_≡_, refl}
 use mathlib.Core.List.{List}
 use Prim.Native.Nat.{ℕ, _-_, _≤_}
-use lib.ListN.{length, length-set}
-use Rattle.node_rules.proofs.EdgeChanges.{Changed, none-changed, in-cut-off, next-cut-off, ins-cut-off}
+use lib.ListN.{length}
+use Rattle.node_rules.proofs.EdgeChanges.{Changed, none-changed, one-changed, in-cut-off, both-changed, ins-cut-off}
 use borrow.Author.Needs.{needs}
 use native.Mathlib.Omega.{arith}
 use denote.Ref.{now}
@@ -18,14 +18,11 @@ abbrev μ-loop : tie.MeasureT-loop
 loop-holds : tie.Need-loop-holds Inv-loop μ-loop
 loop-holds c = (omega arith, omega arith, c .pre .2, λ ends. none-changed _ ends (now (c .args .edges)) (c .args .d .from))
 
-element-write-edges : tie.Need-element-write-edges Inv-loop μ-loop
-element-write-edges c = search needs
+produce-if-requires : tie.Need-produce-if-requires Inv-loop μ-loop
+produce-if-requires c κs = search needs
 
-add-edges : tie.Need-add-edges Inv-loop μ-loop
-add-edges c = search needs
-
-element-write-edges-2 : tie.Need-element-write-edges-2 Inv-loop μ-loop
-element-write-edges-2 c = search needs
+loosen-if-requires : tie.Need-loosen-if-requires Inv-loop μ-loop
+loosen-if-requires c κs = search needs
 
 add-k : tie.Need-add-k Inv-loop μ-loop
 add-k c = search needs
@@ -35,12 +32,12 @@ loop-less c = search needs
 
 loop-again : tie.Need-loop-again Inv-loop μ-loop
 loop-again c =
-    let a = c .before .before .before .args in
-    let l = c .before .before .loop in (
+    let a = c .before .before .before .before .before .before .before .args in
+    let l = c .before .before .before .before .before .before .loop in (
       omega arith,
       omega arith,
-      simp length-set (omega arith),
-      λ ends. next-cut-off ends (now (a .edges)) (a .d .from) (l .edges) (l .k) (omega arith) (omega arith) (l .inv .2) (l .inv .3 ends),
+      c .loosen-if .ensures .1,
+      λ ends. one-changed in-cut-off ends (now (a .edges)) (a .d .from) (l .edges) _ (l .k) (omega arith) (omega arith) _ (both-changed (c .before .before .produce-if .ensures .0 ends) (c .loosen-if .ensures .0 ends)) refl (l .inv .3 ends),
     )
 
 returns : tie.Need-returns Inv-loop μ-loop
@@ -56,9 +53,8 @@ cut-off-spec =
     Inv-loop
     μ-loop
     loop-holds
-    element-write-edges
-    add-edges
-    element-write-edges-2
+    produce-if-requires
+    loosen-if-requires
     add-k
     loop-less
     loop-again

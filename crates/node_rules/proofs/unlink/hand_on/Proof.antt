@@ -1,10 +1,10 @@
 use mathlib.Core.Path.{_≡_}
 use mathlib.Core.List.{List}
 use Prim.Native.Nat.{ℕ, _-_, _≤_}
-use lib.ListN.{length, length-set}
-use Rattle.storage.specs.Edges.{producer-of}
+use lib.ListN.{length}
+use Rattle.storage.specs.Edges.{producer-of, stored-edge}
 use Rattle.node_rules.specs.Held.{handed-on}
-use Rattle.node_rules.proofs.EdgeChanges.{Changed, none-changed, all-changed, next-handed-on}
+use Rattle.node_rules.proofs.EdgeChanges.{Changed, none-changed, one-changed, all-changed, out-handed-on}
 use borrow.Author.Needs.{needs}
 use native.Mathlib.Omega.{arith}
 use denote.Ref.{now}
@@ -20,14 +20,11 @@ abbrev μ-loop : tie.MeasureT-loop
 loop-holds : tie.Need-loop-holds Inv-loop μ-loop
 loop-holds c = (omega arith, c .pre .2, λ ends. none-changed _ ends (now (c .args .edges)) 0)
 
-element-copy-out-p : tie.Need-element-copy-out-p Inv-loop μ-loop
-element-copy-out-p c = search needs
+is-out-of-requires : tie.Need-is-out-of-requires Inv-loop μ-loop
+is-out-of-requires c κs = search needs
 
-pick-byte-requires : tie.Need-pick-byte-requires Inv-loop μ-loop
-pick-byte-requires c κs = search needs
-
-element-write-edges : tie.Need-element-write-edges Inv-loop μ-loop
-element-write-edges c = search needs
+produce-if-requires : tie.Need-produce-if-requires Inv-loop μ-loop
+produce-if-requires c κs = search needs
 
 add-k : tie.Need-add-k Inv-loop μ-loop
 add-k c = search needs
@@ -37,11 +34,12 @@ loop-less c = search needs
 
 loop-again : tie.Need-loop-again Inv-loop μ-loop
 loop-again c =
-    let s = c .before .before .before .before in
-    let l = c .before .before .before .loop in (
+    let a = c .before .before .before .before .before .before .args in
+    let l = c .before .before .before .before .before .loop in (
       omega arith,
-      simp length-set (omega arith),
-      λ ends. next-handed-on ends (now (s .args .edges)) 0 (l .edges) (l .k) _ (omega arith) (omega arith) (l .inv .1) (s .args .n) (s .args .from) (s .pre .1) (c .pick-byte .ensures) (l .inv .2 ends),
+      c .produce-if .ensures .1,
+      λ ends. one-changed (handed-on (a .n) (producer-of (a .from))) ends (now (a .edges)) 0 (l .edges) _ (l .k) (omega arith) (omega arith) _ (c .produce-if .ensures .0 ends)
+          (out-handed-on (a .n) (a .from) (stored-edge ends (l .edges) (l .k)) _ (c .before .before .is-out-of .ensures ends)) (l .inv .2 ends),
     )
 
 returns : tie.Need-returns Inv-loop μ-loop
@@ -57,9 +55,8 @@ hand-on-spec =
     Inv-loop
     μ-loop
     loop-holds
-    element-copy-out-p
-    pick-byte-requires
-    element-write-edges
+    is-out-of-requires
+    produce-if-requires
     add-k
     loop-less
     loop-again

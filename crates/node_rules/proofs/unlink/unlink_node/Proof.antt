@@ -1,10 +1,11 @@
-use mathlib.Core.Path.{ap, _∙_}
+use mathlib.Core.Path.{sym, ap, _∙_}
 use mathlib.Core.List.{map}
 use Prim.Native.Nat.{_<_}
+use Rattle.plan.specs.Graph.{Edge}
 use Rattle.storage.specs.Edges.{producer-of, stored-edges}
 use Rattle.node_rules.specs.Held.{cut-off}
 use Rattle.node_rules.proofs.EdgeChanges.{both-relinked}
-use Rattle.node_rules.proofs.UnlinkLaws.{edge-there, its-consumer, its-slot, first-input}
+use Rattle.node_rules.proofs.UnlinkLaws.{edge-there, edge-is}
 use native.Mathlib.Omega.{arith}
 use denote.Ref.{now}
 use borrow.Author.Needs.{needs}
@@ -21,40 +22,28 @@ there c =
 leaving-edge-requires : tie.Need-leaving-edge-requires
 leaving-edge-requires c κs = search needs
 
-element-copy-out-c : tie.Need-element-copy-out-c
-element-copy-out-c c = search needs
+consumer-of-requires : tie.Need-consumer-of-requires
+consumer-of-requires c κs = omega (arith, there c, c .before .before .pre .1 .0 .0 .few)
 
 cast-c : tie.Need-cast-c
-cast-c c =
-    let s = c .before .before .before in
-    omega (arith, s .pre .1 .0 .0 .there _ (there (c .before)), s .pre .0 .few)
+cast-c c = search needs
 
-add-s : tie.Need-add-s
-add-s c = search needs
-
-element-copy-out-s : tie.Need-element-copy-out-s
-element-copy-out-s c = search needs
+slot-of-requires : tie.Need-slot-of-requires
+slot-of-requires c κs = omega (arith, there (c .before), c .before .before .before .pre .1 .0 .0 .few)
 
 cast-s : tie.Need-cast-s
-cast-s c =
-    let s = c .before .before .before .before in
-    let l = there (c .before .before) in
-    omega (arith, s .pre .1 .0 .0 .slots _ l, s .pre .0 .formed _ (s .pre .1 .0 .0 .there _ l) .n1)
+cast-s c = search needs
 
-mul-b : tie.Need-mul-b
-mul-b c = search needs
-
-add-input : tie.Need-add-input
-add-input c = search needs
-
-element-copy-out-input : tie.Need-element-copy-out-input
-element-copy-out-input c = search needs
+first-input-requires : tie.Need-first-input-requires
+first-input-requires c κs = search needs
 
 store-input-requires : tie.Need-store-input-requires
 store-input-requires c κs =
-    let s = c .before .before .before .before .before .before in
-    let l = there (c .before .before .before .before) in
-    (s .pre .0, (s .pre .1 .0 .0 .there _ l, s .pre .1 .0 .0 .slots _ l))
+    let s = c .before .before .before .before .before .before .before in
+    let l = there (c .before .before .before .before .before) in
+    let consumer = c .before .before .before .before .consumer-of .ensures (now (s .args .edges)) in
+    let slot = c .before .before .before .slot-of .ensures (now (s .args .edges)) in
+    (s .pre .0, rw (consumer, slot) (s .pre .1 .0 .0 .there _ l, s .pre .1 .0 .0 .slots _ l))
 
 producer-into-requires : tie.Need-producer-into-requires
 producer-into-requires c κs = search needs
@@ -67,13 +56,13 @@ cut-off-requires c κs = search needs
 
 returns : tie.Need-returns
 returns c =
-    let s = c .before .before .before .before .before .before .before .before .before .before .before .before .before in
+    let s = c .before .before .before .before .before .before .before .before .before .before .before .before .before .before in
     let a = s .args in
-    let k = c .before .before .before .before .before .before .before .before .before .before .before .leaving-edge in
-    let leaves = k .ensures .0 (now (a .ends)) in
-    let consumer = its-consumer (now (a .ends)) (now (a .edges)) (a .size .edges) (a .n) (k .result) leaves (s .pre .1 .1 .unordered) in
-    let slot = its-slot (now (a .ends)) (now (a .edges)) (a .size .edges) (a .n) (k .result) leaves (s .pre .1 .1 .unordered) in
-    let input = first-input (now (a .steps)) (a .size .steps) (a .n) (s .pre .1 .1 .step) (s .pre .1 .1 .reads) in
+    let k = c .before .before .before .before .before .before .before .before .before .before .before .before .leaving-edge in
+    let edge = edge-is (now (a .ends)) (now (a .edges)) (a .size .edges) (a .n) (k .result) (k .ensures .0 (now (a .ends))) (s .pre .1 .1 .unordered) in
+    let consumer = ap (λ (d : Edge). d .consumer) edge ∙ sym (c .before .before .before .before .before .before .before .before .before .before .before .consumer-of .ensures (now (a .edges))) in
+    let slot = ap (λ (d : Edge). d .slot) edge ∙ sym (c .before .before .before .before .before .before .before .before .before .before .slot-of .ensures (now (a .edges))) in
+    let input = sym (c .before .before .before .before .before .before .before .before .first-input .ensures) in
     let run = s .pre .1 .0 .1 in
     let from = c .before .before .before .before .producer-into in
     let put = c .before .before .before .before .before .before .store-input .ensures in
@@ -93,14 +82,11 @@ unlink-node-spec =
     tie.close
     (tie.spec
     leaving-edge-requires
-    element-copy-out-c
+    consumer-of-requires
     cast-c
-    add-s
-    element-copy-out-s
+    slot-of-requires
     cast-s
-    mul-b
-    add-input
-    element-copy-out-input
+    first-input-requires
     store-input-requires
     producer-into-requires
     hand-on-requires

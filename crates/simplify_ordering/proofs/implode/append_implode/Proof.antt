@@ -1,44 +1,11 @@
 use denote.Ref.{now}
-use Rattle.simplify_ordering.proofs.ImplodeLaws.{implode-law, implode-held}
 use borrow.Author.Needs.{needs}
+use Rattle.simplify_ordering.proofs.ImplodeLaws.{implode-law, implode-held}
 use Rattle.simplify_ordering.proofs.implode.append_implode.Statement.{statement}
 use Rattle.simplify_ordering.proofs.implode.append_implode.Tie as tie
 
-mul-b : tie.Need-mul-b
-mul-b c = search needs
-
-element-write-recs : tie.Need-element-write-recs
-element-write-recs c = search needs
-
-add-recs : tie.Need-add-recs
-add-recs c = search needs
-
-element-write-recs-2 : tie.Need-element-write-recs-2
-element-write-recs-2 c = search needs
-
-add-recs-2 : tie.Need-add-recs-2
-add-recs-2 c = search needs
-
-element-write-recs-3 : tie.Need-element-write-recs-3
-element-write-recs-3 c = search needs
-
-add-recs-3 : tie.Need-add-recs-3
-add-recs-3 c = search needs
-
-element-write-recs-4 : tie.Need-element-write-recs-4
-element-write-recs-4 c = search needs
-
-add-recs-4 : tie.Need-add-recs-4
-add-recs-4 c = search needs
-
-element-write-recs-5 : tie.Need-element-write-recs-5
-element-write-recs-5 c = search needs
-
-add-recs-5 : tie.Need-add-recs-5
-add-recs-5 c = search needs
-
-element-write-recs-6 : tie.Need-element-write-recs-6
-element-write-recs-6 c = search needs
+store-implode-requires : tie.Need-store-implode-requires
+store-implode-requires c κs = search needs
 
 cast-line : tie.Need-cast-line
 cast-line c = search needs
@@ -50,25 +17,15 @@ element-write-off : tie.Need-element-write-off
 element-write-off c = search needs
 
 returns : tie.Need-returns
-returns c = (implode-law (now (c .args .recs)) (now (c .args .line)) (now (c .args .off)) (c .args .n) (c .args .q) (c .pre .0) (c .pre .1 .0) (c .pre .1 .1), implode-held (now (c .args .recs)) (now (c .args .line)) (now (c .args .off)) (c .args .n) (c .args .q) (c .pre .0) (c .pre .1 .0) (c .pre .1 .1))
+returns c =
+    let s = c .before .before in
+    let a = s .args in
+    let new = c .store-implode .ensures in (
+      implode-law (now (a .recs)) (now (a .line)) (now (a .off)) (a .n) (a .q) (s .pre .0) (s .pre .1 .0) (s .pre .1 .1) _ new,
+      implode-held (now (a .recs)) (now (a .line)) (now (a .off)) (a .n) (a .q) (s .pre .0) (s .pre .1 .0) (s .pre .1 .1) _ new,
+    )
 
 pub append-implode-spec : {M : Type 1} → statement M
 append-implode-spec =
     tie.close
-    (tie.spec
-    mul-b
-    element-write-recs
-    add-recs
-    element-write-recs-2
-    add-recs-2
-    element-write-recs-3
-    add-recs-3
-    element-write-recs-4
-    add-recs-4
-    element-write-recs-5
-    add-recs-5
-    element-write-recs-6
-    cast-line
-    element-write-line
-    element-write-off
-    returns)
+    (tie.spec store-implode-requires cast-line element-write-line element-write-off returns)

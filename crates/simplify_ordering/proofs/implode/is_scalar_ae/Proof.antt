@@ -1,29 +1,21 @@
-use Rattle.simplify_ordering.proofs.ImplodeLaws.{base-below, scalar-law}
+use mathlib.Core.Path.{_∙_}
 use denote.Ref.{now}
 use native.Mathlib.Omega.{arith}
 use borrow.Author.Needs.{needs}
+use Rattle.simplify_ordering.proofs.ImplodeLaws.{scalar-law}
 use Rattle.simplify_ordering.proofs.implode.is_scalar_ae.Statement.{statement}
 use Rattle.simplify_ordering.proofs.implode.is_scalar_ae.Tie as tie
 
-element-copy-out-l : tie.Need-element-copy-out-l
-element-copy-out-l c = search needs
+element-copy-out-is-scalar : tie.Need-element-copy-out-is-scalar
+element-copy-out-is-scalar c = search needs
 
-cast-l : tie.Need-cast-l
-cast-l c = omega (arith, base-below (now (c .before .args .recs)) (now (c .before .args .line)) (now (c .before .args .off)) (c .before .args .n) (c .before .args .q) (c .before .pre .0) (c .before .pre .1))
-
-mul-result : tie.Need-mul-result
-mul-result c = omega (arith, base-below (now (c .before .args .recs)) (now (c .before .args .line)) (now (c .before .args .off)) (c .before .args .n) (c .before .args .q) (c .before .pre .0) (c .before .pre .1))
-
-add-result : tie.Need-add-result
-add-result c = omega (arith, base-below (now (c .before .args .recs)) (now (c .before .args .line)) (now (c .before .args .off)) (c .before .args .n) (c .before .args .q) (c .before .pre .0) (c .before .pre .1))
-
-element-copy-out-result : tie.Need-element-copy-out-result
-element-copy-out-result c = omega (arith, base-below (now (c .before .args .recs)) (now (c .before .args .line)) (now (c .before .args .off)) (c .before .args .n) (c .before .args .q) (c .before .pre .0) (c .before .pre .1))
+is-scalar-requires : tie.Need-is-scalar-requires
+is-scalar-requires c κs = let p = c .before .pre in omega (arith, p .0 .below (c .before .args .q) (p .1), p .0 .based .few)
 
 returns : tie.Need-returns
-returns c = scalar-law (now (c .before .before .args .recs)) (now (c .before .before .args .line)) (now (c .before .before .args .off)) (c .before .before .args .n) (c .before .before .args .q) (c .before .before .pre .0) (c .before .before .pre .1)
+returns c =
+    let s = c .before .before in
+    c .is-scalar .ensures ∙ scalar-law (now (s .args .recs)) (now (s .args .line)) (now (s .args .off)) (s .args .n) (s .args .q) (s .pre .1)
 
 pub is-scalar-ae-spec : {M : Type 1} → statement M
-is-scalar-ae-spec =
-    tie.close
-    (tie.spec element-copy-out-l cast-l mul-result add-result element-copy-out-result returns)
+is-scalar-ae-spec = tie.close (tie.spec element-copy-out-is-scalar is-scalar-requires returns)

@@ -1,8 +1,5 @@
 use mathlib.Core.Path.{_≡_}
-use denote.Ref.{now}
 use Prim.Native.Nat.{_*_, _-_, _≤_}
-use native.Mathlib.Omega.{arith}
-use borrow.Author.Needs.{needs}
 use lib.ListN.{length}
 use Rattle.plan.specs.Lists.{concat-map}
 use Rattle.plan.specs.Text.{edge-line}
@@ -10,6 +7,9 @@ use Rattle.storage.specs.Stored.{table}
 use Rattle.storage.specs.Edges.{stored-edge, stored-edges}
 use Rattle.writing.specs.Wrote.{Wrote}
 use Rattle.writing.proofs.Over.{no-entry, next-entry, all-entries}
+use borrow.Author.Needs.{needs}
+use native.Mathlib.Omega.{arith}
+use denote.Ref.{now}
 use Rattle.writing.proofs.blocks.put_edges.Statement.{statement}
 use Rattle.writing.proofs.blocks.put_edges.Tie as tie
 
@@ -25,6 +25,15 @@ loop-holds c =
     let a = c .before .args in
     (omega arith, omega arith, omega arith, no-entry edge-line (stored-edge (now (a .ends)) (now (a .edges))) _)
 
+consumer-of-requires : tie.Need-consumer-of-requires Inv-loop μ-loop
+consumer-of-requires c κs = search needs
+
+slot-of-requires : tie.Need-slot-of-requires Inv-loop μ-loop
+slot-of-requires c κs = search needs
+
+is-unordered-requires : tie.Need-is-unordered-requires Inv-loop μ-loop
+is-unordered-requires c κs = search needs
+
 sub-put-edge : tie.Need-sub-put-edge Inv-loop μ-loop
 sub-put-edge c = search needs
 
@@ -33,21 +42,6 @@ part-put-edge-start c = search needs
 
 part-put-edge-end : tie.Need-part-put-edge-end Inv-loop μ-loop
 part-put-edge-end c = search needs
-
-element-copy-out-put-edge : tie.Need-element-copy-out-put-edge Inv-loop μ-loop
-element-copy-out-put-edge c = search needs
-
-add-put-edge : tie.Need-add-put-edge Inv-loop μ-loop
-add-put-edge c = search needs
-
-element-copy-out-put-edge-2 : tie.Need-element-copy-out-put-edge-2 Inv-loop μ-loop
-element-copy-out-put-edge-2 c = search needs
-
-add-put-edge-2 : tie.Need-add-put-edge-2 Inv-loop μ-loop
-add-put-edge-2 c = search needs
-
-element-copy-out-put-edge-3 : tie.Need-element-copy-out-put-edge-3 Inv-loop μ-loop
-element-copy-out-put-edge-3 c = search needs
 
 put-edge-requires : tie.Need-put-edge-requires Inv-loop μ-loop
 put-edge-requires c κs = search needs
@@ -65,11 +59,14 @@ loop-again : tie.Need-loop-again Inv-loop μ-loop
 unfolding edge-line stored-edge
 loop-again c =
     let a = c .before .before .before .before .before .before .before .before .before .before .args in
-    let l = c .before .before .before .before .before .before .before .before .loop in (
+    let l = c .before .before .before .before .before .before .before .before .loop in
+    let consumer = c .before .before .before .before .before .before .consumer-of .ensures (now (a .edges)) in
+    let slot = c .before .before .before .before .before .slot-of .ensures (now (a .edges)) in
+    let unordered = c .before .before .before .before .is-unordered .ensures in (
       omega arith,
       omega arith,
       search needs,
-      next-entry edge-line (stored-edge (now (a .ends)) (now (a .edges))) (l .i) _ _ _ _ _ (l .inv .3) (c .before .before .put-edge .ensures .0),
+      next-entry edge-line (stored-edge (now (a .ends)) (now (a .edges))) (l .i) _ _ _ _ _ (l .inv .3) (rw (consumer, slot, unordered) at (c .before .before .put-edge .ensures .0)),
     )
 
 same-length : tie.Need-same-length Inv-loop μ-loop
@@ -89,14 +86,12 @@ put-edges-spec =
     Inv-loop
     μ-loop
     loop-holds
+    consumer-of-requires
+    slot-of-requires
+    is-unordered-requires
     sub-put-edge
     part-put-edge-start
     part-put-edge-end
-    element-copy-out-put-edge
-    add-put-edge
-    element-copy-out-put-edge-2
-    add-put-edge-2
-    element-copy-out-put-edge-3
     put-edge-requires
     add-len
     add-i

@@ -1,8 +1,8 @@
 use native.Mathlib.Omega.{arith}
 use borrow.Author.Needs.{needs}
-use Rattle.engine.proofs.ArenaLaws.{Stored-from, no-lines, line-held, line-more, all-lines}
-use Rattle.engine.proofs.arena.store_lines.Statement.{statement}
-use Rattle.engine.proofs.arena.store_lines.Tie as tie
+use Rattle.storage.proofs.ArenaLaws.{Stored-from, no-lines, line-held, line-more, all-lines}
+use Rattle.storage.proofs.arena.store_lines.Statement.{statement}
+use Rattle.storage.proofs.arena.store_lines.Tie as tie
 
 abbrev Inv-loop : tie.InvT-loop
 Inv-loop recs₀ line off n p₀ recs p = Stored-from recs₀ line off n p recs

@@ -1,24 +1,19 @@
 use denote.Ref.{now}
-use Prim.Native.Nat.{_*_}
+use native.Mathlib.Omega.{arith}
 use mathlib.Core.Logic.{⊎-elim}
 use lib.ListN.{getD}
-use Rattle.engine.specs.Lines.{Copied}
-use Rattle.engine.proofs.ArenaLaws.{own-copied, line-on, line-off}
+use Rattle.storage.specs.Stored.{stored-expr}
+use Rattle.storage.specs.Exprs.{Expr-stored}
+use Rattle.storage.proofs.ArenaLaws.{own-record, line-on, line-off}
 use borrow.Author.Needs.{needs}
-use Rattle.engine.proofs.arena.store_line.Statement.{statement}
-use Rattle.engine.proofs.arena.store_line.Tie as tie
+use Rattle.storage.proofs.arena.store_line.Statement.{statement}
+use Rattle.storage.proofs.arena.store_line.Tie as tie
 
 element-copy-out-l : tie.Need-element-copy-out-l
 element-copy-out-l c = search needs
 
 cast-l : tie.Need-cast-l
 cast-l c = search needs
-
-mul-copy-record : tie.Need-mul-copy-record
-mul-copy-record c = search needs
-
-mul-copy-record-2 : tie.Need-mul-copy-record-2
-mul-copy-record-2 c = search needs
 
 copy-record-requires : tie.Need-copy-record-requires
 copy-record-requires c κs = search needs
@@ -37,15 +32,17 @@ element-write-recs c = search needs
 
 -- the record is in its place, whether it was copied or was there
 copied : (c : tie.Joined1)
-    → let s = c .before .before in Copied (now (s .args .recs)) (getD (now (s .args .line)) (s .args .p) 0 * 16) (s .args .p * 16) 16 (c .if1 .recs)
+    → let a = c .before .before .args in Expr-stored (now (a .recs)) (a .p) (stored-expr (now (a .recs)) (getD (now (a .line)) (a .p) 0)) (c .if1 .recs)
 copied c =
-    ⊎-elim (λ w. rw (w .3) (w .2 .ensures)) (λ w. rw (w .1) (own-copied _ _ _ (w .0 .left))) (c .if1 .came)
+    ⊎-elim (λ w. rw (w .3) (w .2 .ensures)) (λ w. rw (w .1) (own-record _ _ _ (w .0 .left) (c .before .before .pre .3))) (c .if1 .came)
 
 returns : tie.Need-returns
-returns c = line-off _ _ _ _ (c .before .before .before .before .pre) _ (copied (c .before .before)) (c .if2 .taken)
+returns c =
+    let p = c .before .before .before .before .pre in
+    line-off _ _ _ _ _ (copied (c .before .before)) (omega (arith, p .0, p .1)) (c .if2 .taken)
 
 returns-2 : tie.Need-returns-2
-returns-2 c = line-on _ _ _ _ (c .before .before .before .before .pre) _ (copied (c .before .before)) (c .if2 .left)
+returns-2 c = line-on _ _ _ _ _ (copied (c .before .before)) (c .if2 .left)
 
 pub store-line-spec : {M : Type 1} → statement M
 store-line-spec =
@@ -53,8 +50,6 @@ store-line-spec =
     (tie.spec
     element-copy-out-l
     cast-l
-    mul-copy-record
-    mul-copy-record-2
     copy-record-requires
     element-copy-out-if2
     mul-recs

@@ -1,16 +1,21 @@
 use native.Mathlib.Omega.{arith}
 use borrow.Author.Needs.{needs}
 use Prim.Native.Nat.{_-_, _≤_}
-use Rattle.engine.specs.Lines.{Copied}
-use Rattle.engine.proofs.ArenaLaws.{none-copied, one-copied, all-copied}
-use Rattle.engine.proofs.arena.copy_record.Statement.{statement}
-use Rattle.engine.proofs.arena.copy_record.Tie as tie
+use Rattle.storage.proofs.ArenaLaws.{Copied, none-copied, one-copied, all-copied}
+use Rattle.storage.proofs.arena.copy_record.Statement.{statement}
+use Rattle.storage.proofs.arena.copy_record.Tie as tie
 
 abbrev Inv-loop : tie.InvT-loop
-Inv-loop recs₀ a b k₀ recs k = (k ≤ 16) × Copied recs₀ a b k recs
+Inv-loop recs₀ l p a b k₀ recs k = (k ≤ 16) × Copied recs₀ l p k recs
 
 abbrev μ-loop : tie.MeasureT-loop
-μ-loop recs₀ a b k₀ recs k = 16 - k
+μ-loop recs₀ l p a b k₀ recs k = 16 - k
+
+mul-a : tie.Need-mul-a Inv-loop μ-loop
+mul-a c = search needs
+
+mul-b : tie.Need-mul-b Inv-loop μ-loop
+mul-b c = search needs
 
 loop-holds : tie.Need-loop-holds Inv-loop μ-loop
 loop-holds c = (omega arith, none-copied _ _ _)
@@ -36,10 +41,14 @@ loop-less c = search needs
 loop-again : tie.Need-loop-again Inv-loop μ-loop
 loop-again c =
     let l = c .before .before .loop in
-    (omega arith, one-copied _ _ _ (l .k) (l .recs) (omega arith) (omega arith) (l .inv .1))
+    let p = c .before .before .before .pre in
+    (omega arith, one-copied _ _ _ (omega (arith, p .1, p .2)) (p .0) (l .k) (l .recs) (omega arith) (l .inv .1))
 
 returns : tie.Need-returns Inv-loop μ-loop
-returns c = let l = c .before .loop in all-copied _ _ _ (l .k) (l .recs) (omega arith) (l .inv .1)
+returns c =
+    let l = c .before .loop in
+    let p = c .before .before .pre in
+    all-copied _ _ _ (omega (arith, p .1, p .2)) (p .0) (l .k) (l .recs) (omega arith) (p .3) (l .inv .1)
 
 pub copy-record-spec : {M : Type 1} → statement M
 copy-record-spec =
@@ -47,6 +56,8 @@ copy-record-spec =
     (tie.spec
     Inv-loop
     μ-loop
+    mul-a
+    mul-b
     loop-holds
     add-recs
     element-copy-out-recs

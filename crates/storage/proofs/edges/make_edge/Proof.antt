@@ -1,9 +1,9 @@
-use denote.Ref.{now}
+use Rattle.storage.proofs.EdgeStores.{edge-more}
 use native.Mathlib.Omega.{arith}
+use denote.Ref.{now}
 use borrow.Author.Needs.{needs}
-use Rattle.ir_graph.proofs.Linking.{edge-more}
-use Rattle.ir_graph.proofs.edges.make_edge.Statement.{statement}
-use Rattle.ir_graph.proofs.edges.make_edge.Tie as tie
+use Rattle.storage.proofs.edges.make_edge.Statement.{statement}
+use Rattle.storage.proofs.edges.make_edge.Tie as tie
 
 size-544-requires : tie.Need-size-544-requires
 size-544-requires c κs = search needs
@@ -32,7 +32,7 @@ element-write-edges-2 c = search needs
 returns : tie.Need-returns
 returns c =
     let a = c .before .before .before .before .args in
-    edge-more (now (a .ends)) (now (a .edges)) (a .e) (a .step) (a .k) (a .input) (omega arith) (omega arith) (c .before .before .size-544 .ensures) (c .size-512 .ensures)
+    edge-more (now (a .ends)) (now (a .edges)) (a .k) (a .consumer) (a .slot) (a .producer) (omega arith) (omega arith) (c .before .before .size-544 .ensures) (c .size-512 .ensures)
 
 pub make-edge-spec : {M : Type 1} → statement M
 make-edge-spec =
