@@ -7,6 +7,7 @@ ghost use Prim.Native.Nat.{_≤_, _<_};
 ghost use lib.ListN.{length, take};
 ghost use Rattle.expr.specs.State.{Falls};
 ghost use Rattle.expr.specs.Read.{Read-exprs};
+ghost use Rattle.cases.specs.Lists.{Lines-sized, List-below};
 use crate::frame::two;
 use crate::frame::wide;
 use expr::eos::Eos;
@@ -57,7 +58,7 @@ fn record_agrees(recs: &[u8; 2048], l: usize, off: bool, b: &[u8]) -> bool
 
 // Do the n records after the looks agree with those of b, each after its length?
 fn records_agree(recs: &[u8; 2048], n: usize, line: [u8; 128], off: [bool; 128], b: &[u8]) -> bool
-    requires { ⌜ (n ≤ 128) × (length line ≡ 128) × (length off ≡ 128) ⌝ }
+    requires { ⌜ Lines-sized n line off ⌝ }
 {
     let mut rest = b;
     let mut q: usize = 0;
@@ -106,7 +107,7 @@ fn answers_agree(s: Eos, c: Case) -> bool {
 // Do the looks at the case's list come to what the case says, and leave the records of b?
 fn list_agrees(recs: &[u8; 2048], n: usize, c: Case, b: &[u8]) -> bool
     requires { ⌜ Read-exprs (now recs) n ⌝ }
-    requires { ⌜ (c .count ≤ 8) × (length (c .nodes) ≡ 8) × Falls n (take (c .count) (c .nodes)) ⌝ }
+    requires { ⌜ List-below n (c .count) (c .nodes) ⌝ }
 {
     size_2048(recs);
     let mut line = own_lines();

@@ -4,7 +4,7 @@ use mathlib.Core.Logic.{inl, inr, _≢_}
 use Prim.Native.Nat.{ℕ, _+_, _≤_}
 use native.Mathlib.Omega.{arith}
 use native.Mathlib.Decide.{ℕ-discrete}
-use mathlib.Core.Bool.{Bool, true, false, _&&_}
+use mathlib.Core.Bool.{true, false, and-false}
 use mathlib.Core.List.{List, [], _∷_, map, List·Memᴰ, List·Memᴰ·head, List·Memᴰ·tail}
 use mathlib.Core.Option.{Option, some}
 use lib.Dec.{T, eqb, eqb→eq, eqb-refl}
@@ -16,7 +16,8 @@ use Rattle.plan.specs.Graph.{Edge}
 use Rattle.plan.specs.Visit.{Run, simplify-ir-node-orders, goes, unlink-node, loosened, relinked, is-into, is-out-of, no-edge, out-edge, in-edge, settled-by}
 use Rattle.plan.proofs.Settling.{settled, ruling, ruled-step}
 use Rattle.claims.specs.Demand3.{leaving}
-use Rattle.plan.proofs.Booleans.{differ, equal}
+use borrow.Author.Tests.{ne-eqb}
+use Rattle.plan.proofs.Booleans.{equal}
 use Rattle.plan.proofs.Counts.{true-of, T-of, not-both, of-map, mem-at, some-counted, only-one, count-map, count-same, count-none, count-balance, times-same, times-other, times-of}
 use Rattle.claims.proofs.Walks.{two-ways}
 use Rattle.claims.proofs.Edges.{edge-at, outs, intos, producer-of, is-producer, other-producer, out-edge-at, leaving-there, leaving-out, out-edge-there, in-edge-there, cut, three-ways, at-map}
@@ -63,7 +64,7 @@ module _ (n input : ℕ) where
 
   module _ (other : input ≢ n) (d : Edge) where
     relinked-out : is-out-of n (relinked n (some input) d) ≡ false
-    relinked-out = three-ways n (some input) (λ (x : Edge). is-out-of n x ≡ false) d (λ t. refl) (λ i t. differ input n other) (λ i j. j)
+    relinked-out = three-ways n (some input) (λ (x : Edge). is-out-of n x ≡ false) d (λ t. refl) (λ i t. ne-eqb input n other) (λ i j. j)
 
     module _ (from : d .consumer ≡ n → d .producer ≡ some input) where
       from-input : T (is-into n d) → d .producer ≡ some input
@@ -74,7 +75,7 @@ module _ (n input : ℕ) where
       relinked-elsewhere k h l =
           three-ways n (some input) (λ (x : Edge). is-out-of k x ≡ is-out-of k d) d
           (λ t. sym (other-producer k input d (from-input t) (λ e. l (sym e))))
-          (λ i t. differ input k (λ e. l (sym e)) ∙ sym (other-producer k n d (producer-of n d t) (λ e. h (sym e))))
+          (λ i t. ne-eqb input k (λ e. l (sym e)) ∙ sym (other-producer k n d (producer-of n d t) (λ e. h (sym e))))
           (λ i j. refl)
 
       -- out of the input: the edge into n goes, the edge out of n comes
@@ -127,20 +128,16 @@ module _ (ps : List Step) (n : ℕ) (rest : List ℕ) (r : Run) (g : Linked ps (
           leaves = rw there o;
           ordered =
               rw there (still-ordered d (ap (λ (y : Edge). y .unordered) (out-edge-at n (r .edges)) ∙ stays-ordered n r (sort-now t) w)
-              (differ (d .consumer) n (λ j. l .0 (sym j))));
+              (ne-eqb (d .consumer) n (λ j. l .0 (sym j))));
           apart =
               λ m i. rw there (record {
-                into = differ (d .consumer) m (λ j. l .1 (subst (λ y. List·Memᴰ y rest) (sym j) i));
+                into = ne-eqb (d .consumer) m (λ j. l .1 (subst (λ y. List·Memᴰ y rest) (sym j) i));
                 out = other-producer m n d p (λ j. not-later is-sort (subst (λ y. List·Memᴰ y rest) (sym j) i));
               });
         }
       where
-        nothing : (b : Bool) → b && false ≡ false
-        nothing true = refl
-        nothing false = refl
-
         still-ordered : (d : Edge) → d .unordered ≡ false → is-into n d ≡ false → looser d .unordered ≡ false
-        still-ordered d e f = rw (e, f, sort-holds-out n r (sort-kind (step-at (r .steps) n) (sort-now t))) (nothing (is-out-of n d))
+        still-ordered d e f = rw (e, f, sort-holds-out n r (sort-kind (step-at (r .steps) n) (sort-now t))) (and-false (is-out-of n d))
 
     settled-linked : Linked ps rest (settled n r)
     unfolding settled-by sum

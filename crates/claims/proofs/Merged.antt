@@ -18,7 +18,8 @@ use Rattle.plan.specs.Sheet.{Step, no-step, step-at}
 use Rattle.plan.specs.Faults.{named}
 use Rattle.plan.specs.Graph.{Edge, sinks, is-cache, one-id, most-places, key, all-steps, first-met, pop, popped, pushes, hits, opens, following, edges-into, grow, build-ir-traversal-graph, graph}
 use Rattle.plan.proofs.ListLaws.{and-left, and-right}
-use Rattle.plan.proofs.Booleans.{T-eq, and-both, equal, differ}
+use borrow.Author.Tests.{ne-eqb}
+use Rattle.plan.proofs.Booleans.{T-eq, and-both, equal}
 use Rattle.plan.proofs.Counts.{true-of, false-of, T-of, entry-of, sum-reverse, mem-reverse, times-of}
 use Rattle.claims.proofs.Visits.{length-numbered}
 use Rattle.claims.specs.Plan.{Plan}
@@ -99,7 +100,7 @@ module _ (ps : List Step) where
 
   pub merged-away : (n : ℕ) → key ps n ≢ n → (step-at merged n .kind ≡ IR.Scan) × (step-at merged n .inputs ≡ [])
   merged-away n h =
-      let e = differ (key ps n) n h in (
+      let e = ne-eqb (key ps n) n h in (
         ap (λ (s : Step). s .kind) (at-merged n) ∙ ap (λ (b : Bool). if b then step-at ps n .kind else IR.Scan) e,
         ap (λ (s : Step). s .inputs) (at-merged n) ∙ ap (λ (b : Bool). if b then map (key ps) (step-at ps n .inputs) else []) e,
       )

@@ -16,7 +16,8 @@ use Rattle.plan.specs.Faults.{named}
 use Rattle.plan.specs.Graph.{Edge, sinks, is-cache, most-places}
 use Rattle.plan.specs.Visit.{is-into, is-out-of}
 use Rattle.plan.proofs.ListLaws.{sum-append, and-left}
-use Rattle.plan.proofs.Booleans.{T-eq, differ, equal}
+use borrow.Author.Tests.{ne-eqb}
+use Rattle.plan.proofs.Booleans.{T-eq, equal}
 use Rattle.plan.proofs.Counts.{false-of, mem-at, sum-reverse, sum-ones, times-same, times-other, same-number, only, not-both, count, count-none}
 use Rattle.claims.proofs.ByLine.{graph, grow, popped, hits, opens, following, edges-into}
 use Rattle.claims.specs.Plan.{Plan}
@@ -156,7 +157,7 @@ slots-made c k n j (x ∷ ms) = by (eqb n c) (ℕ-discrete j k) (slots-made c k 
     by : (b : Bool) → Dec (j ≡ k) → (into-slot c k (made-for n (suc j) ms) ≤ 1) × (k < suc j → into-slot c k (made-for n (suc j) ms) ≡ 0)
         → ((if b && eqb j k then 1 else 0) + into-slot c k (made-for n (suc j) ms) ≤ 1)
         × (k < j → (if b && eqb j k then 1 else 0) + into-slot c k (made-for n (suc j) ms) ≡ 0)
-    by b (no e) (f, g) = rw (differ j k e) (nothing b f, λ h. none b (g (omega arith)))
+    by b (no e) (f, g) = rw (ne-eqb j k e) (nothing b f, λ h. none b (g (omega arith)))
       where
         nothing : (b : Bool) {m : ℕ} → m ≤ 1 → (if b && false then 1 else 0) + m ≤ 1
         nothing true h = omega arith
@@ -175,7 +176,7 @@ slots-made c k n j (x ∷ ms) = by (eqb n c) (ℕ-discrete j k) (slots-made c k 
 slots-other : (c k n j : ℕ) (ms : List ℕ) → c ≢ n → into-slot c k (made-for n j ms) ≡ 0
 unfolding numbered sum
 slots-other c k n j [] h = refl
-slots-other c k n j (x ∷ ms) h = rw (differ n c (λ e. h (sym e))) (omega (arith, slots-other c k n (suc j) ms h))
+slots-other c k n j (x ∷ ms) h = rw (ne-eqb n c (λ e. h (sym e))) (omega (arith, slots-other c k n (suc j) ms h))
 
 -- p: the visiting list, the last place first
 abbrev Result : List Step → List ℕ × List Edge → Type 0
@@ -231,7 +232,7 @@ module _ (ps : List Step) (plan : Plan ps) where
         by (yes i) =
             subst (λ x. _≡_ {A = ℕ} (if eqb x m then length (follow ps past x) else 0) (only m x)) i
             (rw (same-number m) (opens-now (is-cache ps m) h))
-        by (no k) = rw (differ m n k, differ n m (λ e. k (sym e)))
+        by (no k) = rw (ne-eqb m n k, ne-eqb n m (λ e. k (sym e)))
 
     -- n has no edges yet
     slots-next : (es : List Edge) → Grown ps past (n ∷ ns) es → (c j : ℕ) → Dec (c ≡ n) → into-slot c j es + into-slot c j (made-for n 0 ms) ≤ 1

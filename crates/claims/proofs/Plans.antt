@@ -17,7 +17,8 @@ use Rattle.plan.specs.Graph.{sinks, is-cache}
 use Rattle.plan.proofs.ListLaws.{and-left, and-right, of-all}
 use Rattle.claims.specs.WellFormed.{WellFormed}
 use Rattle.claims.specs.Plan.{Plan}
-use Rattle.plan.proofs.Booleans.{differ, equal, all-at}
+use borrow.Author.Tests.{ne-eqb}
+use Rattle.plan.proofs.Booleans.{equal, all-at}
 use Rattle.plan.proofs.Counts.{true-of, false-of, T-of, not-both, mem-concat, count-none, times-of, only}
 use Rattle.claims.proofs.StepTable.{sort-has-one-input}
 use Rattle.plan.proofs.KindNumbers.{same-kind, in-range}
@@ -44,7 +45,7 @@ sinks-cons n k x ps = by (same-ir (x .kind) IR.Sink)
 
 -- an entry with another number counts nothing
 skipped : (n k : ℕ) (x : Step) (ps : List Step) → n ≢ k → times n (sinks-from k (x ∷ ps)) ≡ times n (sinks-from (suc k) ps)
-skipped n k x ps h = let e = rw (differ n k h) at (sinks-cons n k x ps) in by (same-ir (x .kind) IR.Sink) e
+skipped n k x ps h = let e = rw (ne-eqb n k h) at (sinks-cons n k x ps) in by (same-ir (x .kind) IR.Sink) e
   where
     by : (b : Bool) → times n (sinks-from k (x ∷ ps)) ≡ (if b then 0 else 0) + times n (sinks-from (suc k) ps)
         → times n (sinks-from k (x ∷ ps)) ≡ times n (sinks-from (suc k) ps)
@@ -117,7 +118,7 @@ module _ (sh : Sheet) (w : WellFormed sh) where
       (λ m i.
       let (k, l, j) = mem-concat (λ (s : Step). s .inputs) ps no-step m i in
       let (a, b, c) = input-right k m j in
-      differ n m (λ e. h (subst (λ x. (x < length ps) × (same-ir (step-at ps x .kind) IR.Sink ≡ false)) (sym e) (a, c))))
+      ne-eqb n m (λ e. h (subst (λ x. (x < length ps) × (same-ir (step-at ps x .kind) IR.Sink ≡ false)) (sym e) (a, c))))
 
   used-right : (n : ℕ) → n < length ps → T (use-right (step-at ps n .kind) (times n (named ps)))
   unfolding named-right

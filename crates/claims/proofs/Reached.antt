@@ -13,7 +13,7 @@ use Rattle.plan.specs.Lists.{if_then_else_, sum, numbered, times}
 use Rattle.plan.specs.Sheet.{Step, no-step, step-at}
 use Rattle.plan.specs.Faults.{named}
 use Rattle.plan.specs.Graph.{sinks}
-use Rattle.plan.proofs.Booleans.{differ}
+use borrow.Author.Tests.{ne-eqb}
 use Rattle.plan.proofs.Counts.{true-of, entry-of, sum-eq, sum-le, sum-numbered, sum-concat, count-none, only}
 use Rattle.claims.specs.Plan.{Plan}
 
@@ -119,7 +119,7 @@ module _ (ps : List Step) (plan : Plan ps) (places : List ℕ) (opened : ℕ →
       by m k (yes i) rec = weightless (only n) m (rec i)
       by m k (no i) rec =
           inr (count-none (eqb n) (step-at ps m .inputs)
-          (λ q j. differ n q (λ e. let z = subst (λ x. plan .rank x < plan .rank m) (sym e) (plan .lower m q j) in omega arith)))
+          (λ q j. ne-eqb n q (λ e. let z = subst (λ x. plan .rank x < plan .rank m) (sym e) (plan .lower m q j) in omega arith)))
 
   pub all-placed : (w : ℕ → ℕ) → sum w places ≡ sum w (sinks ps) + sum w (named ps)
   all-placed w = omega (arith, counted w, followed-all w ps opened (λ n h. weightless w n (all-open (length ps) n (omega arith) h)))

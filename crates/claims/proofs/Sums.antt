@@ -10,7 +10,7 @@ use mathlib.Core.List.{List, [], _∷_, List·Memᴰ, List·Memᴰ·head, List·
 use lib.Dec.{T, eqb, eqb-refl}
 use lib.ListN.{length, getD, set}
 use Rattle.plan.specs.Lists.{if_then_else_, sum}
-use Rattle.plan.proofs.Booleans.{differ}
+use borrow.Author.Tests.{ne-eqb}
 use Rattle.plan.proofs.Counts.{only}
 
 module _ {A : Type 0} where
@@ -73,7 +73,7 @@ only-own v = by (eqb v v) (eqb-refl v)
     by false t = absurd t
 
 pub only-other : (v m : ℕ) → ¬ (v ≡ m) → only v m ≡ 0
-only-other v m n = rw (differ v m n)
+only-other v m n = rw (ne-eqb v m n)
 
 -- over the numbers below n
 unfoldable pub sum-below : (ℕ → ℕ) → ℕ → ℕ

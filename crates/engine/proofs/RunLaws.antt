@@ -28,7 +28,7 @@ use Rattle.simplify_ordering.specs.Run.{run-of}
 use Rattle.simplify_ordering.specs.Walks.{sheet-of, Fetch-asks, Orderings-are, Orderings-held}
 use Rattle.simplify_ordering.specs.declared.walks.Fetched.{Fetched}
 use Rattle.simplify_ordering.specs.declared.walks.Orderings.{Orderings}
-use Rattle.writing.specs.Blocks.{Sheet-wrote}
+use Rattle.writing.specs.Blocks.{Sheet-wrote, Figures-told}
 use Rattle.engine.specs.Call.{call, Plan-stored, Graph-made, Run-wrote}
 
 -- What the walks ask -------------------------------------------------------------------------------------------------------------
@@ -93,15 +93,15 @@ module _ (recs line : List ℕ) (off : List Bool) (m : ℕ) (steps ends edges : 
 
   pub run-wrote : stored-exprs xs m ≡ arena-of recs line off m
       → Sheet-wrote (concat-map expr-line (stored-exprs xs m)) (concat-map step-line (stored-steps steps (size .steps))) (concat-map edge-line (stored-edges ends edges (size .edges))) (text.line 84 (removed ∷ tally .visits ∷ tally .looks ∷ [])) entry exit f
-      → (f .removed ≡ removed) × (f .visits ≡ tally .visits) × (f .looks ≡ tally .looks)
+      → Figures-told (record { removed = removed; visits = tally .visits; looks = tally .looks }) f
       → Run-wrote run removed entry exit f
   unfolding exprs-block steps-block edges-block tally-line
-  run-wrote e w (x, y, z) =
+  run-wrote e w told =
       record {
         answer =
             λ back gone same.
             answer-is (run back gone) _ _ _ _ entry exit f w (ap (concat-map expr-line) e) refl refl (ap (λ (k : ℕ). text.line 84 (k ∷ tally .visits ∷ tally .looks ∷ [])) same)
-            (x ∙ same) y z;
+            (told .removed ∙ same) (told .visits) (told .looks);
         bytes =
             λ back gone same.
             bytes-are (run back gone) _ _ _ _ entry exit f w (ap (concat-map expr-line) e) refl refl (ap (λ (k : ℕ). text.line 84 (k ∷ tally .visits ∷ tally .looks ∷ [])) same);

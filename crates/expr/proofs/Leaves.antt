@@ -26,7 +26,7 @@ use Rattle.storage.proofs.ExprLaws.{stored}
 use Rattle.expr.proofs.States.{counted, answering, kept-owning, eos-field, eos-counted, eos-answering, eos-at}
 use Rattle.expr.proofs.Laws.{finish, after-answers, finish-done, look-rest}
 use Rattle.expr.proofs.Along.{none-in-order, children-from, along-none}
-use Rattle.expr.proofs.Ways.{held-children, held-kind, line-room, line-formed}
+use Rattle.expr.proofs.Ways.{held-children, held-kind, line-record}
 
 -- The kinds ----------------------------------------------------------------------------------------------------------------------
 
@@ -111,7 +111,8 @@ module _ (recs : List ℕ) (n : ℕ) (s : State) (p : ℕ) (allow : Bool) (r : L
           }
       leaf-stored =
           let none-there : getD recs (l * 16 + 12) 0 ≡ 0 = eqb-true (getD recs (l * 16 + 12) 0) 0 (and-right (ltb k 5) _ leafy) in
-          rw (stored recs l (line-room recs n s p (r .based) (r .formed) (r .within)) (line-formed recs n s p (r .based) (r .formed) (r .within)), none-there)
+          let there = line-record recs n s p (r .based) (r .formed) (r .within) in
+          rw (stored recs l (there .room) (there .formed), none-there)
 
       leaf-kind-is : leaf-expr .kind ≡ aexpr k
       leaf-kind-is = held-kind recs l (getD (s .off) p false) ∙ ap (λ (x : Expr). x .kind) leaf-stored

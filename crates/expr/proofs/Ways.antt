@@ -21,16 +21,15 @@ use Rattle.plan.specs.Sheet.{Expr, expr-at}
 use Rattle.plan.specs.Orders.{single}
 use Rattle.plan.specs.Look.{one-look, before, check-return-cached, is-replaced, replace-by-input, after, look-again, look-along-children, look-ended, look}
 use Rattle.plan.specs.Look as plan
-use Rattle.storage.specs.Stored.{stored-expr, Expr-formed}
+use Rattle.storage.specs.Stored.{stored-expr}
 use Rattle.expr.specs.declared.after.After.{After}
 use Rattle.storage.specs.declared.exprs.ExprRecord.{ExprRecord}
 use Rattle.expr.specs.Cache.{unpacked, cache-of}
-use Rattle.storage.specs.Exprs.{record-of, held, IsHeld}
+use Rattle.storage.specs.Exprs.{record-of, held, Record-held, IsHeld}
 use Rattle.expr.specs.State.{State, eos-of, Falls, Based, Formed, Kept, Readable, sorts, preserves, is-replaced-line}
 use Rattle.expr.specs.Tables.{output-of, after-of, answers}
 use Rattle.expr.specs.Contract.{Walked, looked-of, LookAsks, LookGives, answer-by, AgainAsks, AgainGives, ended-by, Ended, Answers, reach, AlongAsks, IsWalk, AlongGives}
 use Rattle.plan.proofs.Booleans.{and-left, and-right}
-use Rattle.storage.proofs.ExprLaws.{stored}
 use Rattle.expr.proofs.Records.{above-least}
 use Rattle.expr.proofs.States.{kept-trans, formed-kept, counted, answering, copied, kept-owning, kept-copied, eos-cache, eos-field, eos-looks, eos-counted, eos-answering, same-field, eos-at, eos-copied}
 use Rattle.expr.proofs.Laws.{finish, after-answers, look-hit, look-copied, look-rest, up-finish, up-look, up-count}
@@ -93,18 +92,16 @@ module _ (recs : List ℕ) (n : ℕ) (s : State) (p : ℕ) (based : Based recs n
   pub line-below : getD (s .line) p 0 < n
   line-below = lt-of-le-of-lt (formed .below p within) within
 
-  pub line-128 : getD (s .line) p 0 < 128
-  line-128 = lt-of-lt-of-le line-below (based .few)
-
-  pub line-room : getD (s .line) p 0 * 16 + 16 ≤ length recs
-  line-room = omega (arith, line-below, based .room)
-
-  pub line-formed : Expr-formed recs (getD (s .line) p 0)
-  line-formed = based .formed (getD (s .line) p 0) line-below
+  pub line-record : Record-held recs (getD (s .line) p 0)
+  line-record =
+      record {
+        few = lt-of-lt-of-le line-below (based .few);
+        room = omega (arith, line-below, based .room);
+        formed = based .formed (getD (s .line) p 0) line-below;
+      }
 
   preserves-is : (tally : Tally) → expr-at (eos-of tally recs n s .expr-arena) p .length-preserving ≡ preserves recs (s .line) p
-  preserves-is tally =
-      rw (eos-at tally recs n s p within, held-length-preserving recs (getD (s .line) p 0) (getD (s .off) p false), stored recs (getD (s .line) p 0) line-room line-formed)
+  preserves-is tally = rw (eos-at tally recs n s p within, held-length-preserving recs (getD (s .line) p 0) (getD (s .off) p false))
 
 module _ (recs : List ℕ) (n : ℕ) (s : State) (p : ℕ) (allow : Bool) (r : LookAsks recs n s p allow) where
   abbrev S : Tally → plan.Eos

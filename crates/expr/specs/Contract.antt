@@ -59,6 +59,12 @@ pub record AgainGives (recs : List ℕ) (n : ℕ) (s : State) (v : After) (node 
 abbrev pub ended-by : ℕ → Expr → plan.After → ObservableOrders → List ObservableOrders → ObservableOrders × plan.Eos → ObservableOrders × plan.Eos
 ended-by p e v field os r = (r .0, look-ended p e v (r .0) field os (r .1))
 
+-- the end of a look at p
+pub record EndAsks (off : List Bool) (cache : List ℕ) (p : ℕ) : Type 0 where
+  pub within : p < 128
+  pub off-size : length off ≡ 128
+  pub cache-size : length cache ≡ 128
+
 -- for every base and every list of answers that begins with the first one
 pub record Ended (s : State) (p : ℕ) (e : Expr) (v : plan.After) (field first : ObservableOrders) (r : State) : Type 0 where
   pub is : (tally : Tally) (recs : List ℕ) (n : ℕ) (os : List ObservableOrders) → p < n → getD os 0 ∅ ≡ first

@@ -3,7 +3,6 @@ use mathlib.Core.Path.{_≡_}
 use Prim.Native.Nat.{ℕ, suc, _+_, _-_, _*_, _≤_, _<_}
 use mathlib.Core.Bool.{Bool, true, _&&_, _||_}
 use mathlib.Core.List.{List, [], _∷_}
-use lib.Dec.{eqb}
 use lib.ListN.{length, getD}
 use Rattle.plan.specs.declared.aexpr.AExpr.{AExpr}
 use Rattle.plan.specs.Kinds.{same-aexpr}
@@ -79,7 +78,7 @@ pub record Kept (s r : State) : Type 0 where
 -- The test for a replacement, over the lines -------------------------------------------------------------------------------------
 
 abbrev pub preserves : List ℕ → List ℕ → ℕ → Bool
-preserves recs line q = eqb (getD recs (getD line q 0 * 16 + 2) 0) 1
+preserves recs line q = stored-expr recs (getD line q 0) .length-preserving
 
 abbrev pub is-replaced-line : List ℕ → List ℕ → Expr → Bool → Bool
 is-replaced-line recs line e allow =

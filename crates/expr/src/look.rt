@@ -1,9 +1,9 @@
 // A look at a record, and along its children: `rec` of expr.rs.
 ghost use mathlib.Core.Path.{_≡_};
 ghost use mathlib.Core.Bool.{_&&_};
-ghost use Prim.Native.Nat.{ℕ, _<_};
+ghost use Prim.Native.Nat.{ℕ};
 ghost use mathlib.Core.List.{List};
-ghost use lib.ListN.{length, drop};
+ghost use lib.ListN.{drop};
 ghost use lib.Dec.{eqb};
 ghost use Rattle.plan.specs.Kinds.{same-aexpr};
 ghost use Rattle.plan.specs.Lists.{if_then_else_, yes?, all?};
@@ -14,7 +14,7 @@ ghost use Rattle.expr.specs.Tables.{after-of};
 ghost use Rattle.storage.specs.Exprs.{record-of, Shaped};
 ghost use Rattle.expr.specs.State.{state, preserves, is-replaced-line, Readable};
 ghost use Rattle.expr.specs.Eos.{own-of, with-field};
-ghost use Rattle.expr.specs.Contract.{walked, Ended, LookAsks, LookGives, AgainAsks, AgainGives, AlongAsks, AlongGives};
+ghost use Rattle.expr.specs.Contract.{walked, Ended, LookAsks, LookGives, AgainAsks, AgainGives, EndAsks, AlongAsks, AlongGives};
 use crate::after::After;
 use crate::after::leaf;
 use crate::before::before_of;
@@ -30,6 +30,7 @@ use plan::looks::Before;
 use plan::orders::ObservableOrders;
 use storage::exprs::ExprRecord;
 use storage::exprs::expr_of;
+use storage::exprs::is_length_preserving;
 
 pub struct Walk {
     pub state: Eos,
@@ -52,8 +53,7 @@ fn length_preserving(recs: &[u8; 2048], line: &[u8; 128], e: ExprRecord, i: u8) 
     }
     let k = i as usize;
     let c = e.children[k] as usize;
-    let l = line[c] as usize;
-    if recs[l * 16 + 2] != 1 {
+    if !is_length_preserving(recs, line[c]) {
         return false;
     }
     length_preserving(recs, line, e, i + 1)
@@ -111,7 +111,7 @@ fn look_ended(
     field: ObservableOrders,
     first: ObservableOrders,
 ) -> Eos
-    requires { ⌜ (p < 128) × (length (now off) ≡ 128) × (length (now cache) ≡ 128) ⌝ }
+    requires { ⌜ EndAsks (now off) (now cache) p ⌝ }
     ensures { λ r. ⌜ ((line : List ℕ) → Ended (state line (now (off .entry)) (now (cache .entry)) s) p (record-of e) (after-of v) field first (state line (now (off .exit)) (now (cache .exit)) r)) ⌝ }
 {
     let was = off[p];

@@ -16,7 +16,8 @@ use Rattle.plan.specs.Graph.{Edge, graph, sinks, is-cache}
 use Rattle.plan.specs.Visit.{is-into, no-edge}
 use Rattle.storage.specs.Stored.{stored-steps, Step-formed}
 use Rattle.storage.specs.Edges.{stored-edge, stored-edges, made, In-a-row}
-use Rattle.plan.proofs.Booleans.{differ, equal}
+use borrow.Author.Tests.{ne-eqb}
+use Rattle.plan.proofs.Booleans.{equal}
 use Rattle.plan.proofs.Counts.{false-of, true-of, sum-reverse, times-same, times-other, same-number, only}
 use Rattle.claims.specs.Plan.{Plan}
 use Rattle.claims.proofs.ByLine.{popped, hits, opens, following, edges-into}
@@ -45,7 +46,7 @@ own-from n k (m ∷ ms) = rw (same-number n) (ap (λ (r : List Edge). made n k m
 other-from : (n m k : ℕ) (ms : List ℕ) → m ≢ n → select (is-into m) (made-from n k ms) ≡ []
 unfolding select numbered made-from
 other-from n m k [] h = refl
-other-from n m k (x ∷ ms) h = rw (differ n m (λ e. h (sym e))) (other-from n m (suc k) ms h)
+other-from n m k (x ∷ ms) h = rw (ne-eqb n m (λ e. h (sym e))) (other-from n m (suc k) ms h)
 
 own-edges : (n : ℕ) (ms : List ℕ) → select (is-into n) (edges-into n ms) ≡ edges-into n ms
 unfolding edges-into made-from

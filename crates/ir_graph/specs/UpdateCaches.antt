@@ -1,6 +1,6 @@
 -- CacheNodeUpdater of ir_graph.rs as the code goes about it: a table of the lines met first, and update_cache_nodes line by line.
 use mathlib.Core.Path.{_≡_}
-use Prim.Native.Nat.{ℕ}
+use Prim.Native.Nat.{ℕ, _≤_, _<_}
 use mathlib.Core.List.{List}
 use lib.Dec.{T}
 use lib.ListN.{length, getD, set}
@@ -13,6 +13,12 @@ use Rattle.plan.specs.Visit.{with-input}
 -- the key of each line, by the steps as they are sent; only a Cache's is read
 unfoldable pub first-lines : List Step → List ℕ
 first-lines ps = table (key ps) 0 (length ps)
+
+-- k and m are among n steps
+pub record Two-steps (n k m : ℕ) : Type 0 where
+  pub few : n ≤ 32
+  pub one : k < n
+  pub other : m < n
 
 -- such a table as a function
 abbrev pub line-met : List ℕ → ℕ → ℕ

@@ -2,7 +2,7 @@
 ghost use mathlib.Core.List.{[]};
 ghost use Prim.Native.Nat.{ℕ, _+_, _-_, _≤_, _<_};
 ghost use lib.ListN.{getD, take, drop};
-ghost use Rattle.ir_graph.specs.Edges.{Linked};
+ghost use Rattle.ir_graph.specs.Edges.{Inputs-from, Linked};
 use plan::sizes::size_288;
 use storage::edges::make_edge;
 
@@ -17,7 +17,7 @@ pub fn link(
     edges: &mut [u8; 512],
     made: usize,
 ) -> usize
-    requires { ⌜ (start ≤ end) × (end ≤ start + 8) × (end ≤ 288) ⌝ }
+    requires { ⌜ Inputs-from start end ⌝ }
     requires { ⌜ made + (end - start) ≤ 256 ⌝ }
     requires { ⌜ ((k : ℕ) → start ≤ k → k < end → getD (now places) k 0 < 255) ⌝ }
     ensures { λ r. ⌜ Linked step (drop start (take end (now (places .entry)))) (now (ends .entry)) (now (edges .entry)) made (now (ends .exit)) (now (edges .exit)) r ⌝ }

@@ -5,7 +5,7 @@ ghost use lib.ListN.{getD, take};
 ghost use Rattle.plan.specs.Graph.{one-id, first-met};
 ghost use Rattle.storage.specs.Stored.{stored-steps, Step-formed};
 ghost use Rattle.claims.specs.Plan.{Plan};
-ghost use Rattle.ir_graph.specs.UpdateCaches.{first-lines};
+ghost use Rattle.ir_graph.specs.UpdateCaches.{first-lines, Two-steps};
 use crate::hits::count_hits;
 use plan::sizes::size_32;
 use plan::sizes::size_288;
@@ -14,7 +14,7 @@ use storage::steps::is_cache;
 
 // Are both Caches, with one id?
 fn one_id(steps: &[u8; 1024], n: usize, k: usize, m: usize) -> bool
-    requires { ⌜ (n ≤ 32) × (k < n) × (m < n) ⌝ }
+    requires { ⌜ Two-steps n k m ⌝ }
     ensures { λ r. ⌜ r ≡ one-id (stored-steps (now (steps .entry)) n) k m ⌝ }
 {
     if !is_cache(steps, k) {

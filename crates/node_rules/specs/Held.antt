@@ -15,6 +15,13 @@ use Rattle.storage.specs.Edges.{mark, stored-edge}
 use Rattle.storage.specs.declared.edges.GraphSize.{GraphSize}
 use Rattle.node_rules.specs.declared.around.InEdges.{InEdges}
 
+-- The edges of a step among all ------------------------------------------------------------------------------------------------------
+
+-- step n has its edges among the first `len`
+pub record Among (len n : ℕ) : Type 0 where
+  pub few : len ≤ 256
+  pub small : n < 32
+
 -- The edges into a step --------------------------------------------------------------------------------------------------------------
 
 -- the edges into step n are those from one number up to another
@@ -23,6 +30,11 @@ pub record In-run (ends : List ℕ) (len n : ℕ) (d : InEdges) : Type 0 where
   pub fits : d .to ≤ len
   pub into : (k : ℕ) → k < len → getD ends k 0 ≡ n → (d .from ≤ k) × (k < d .to)
   pub all : (k : ℕ) → d .from ≤ k → k < d .to → getD ends k 0 ≡ n
+
+-- the run is one of the first `len` edges
+pub record Run-fits (len : ℕ) (d : InEdges) : Type 0 where
+  pub order : d .from ≤ d .to
+  pub fits : d .to ≤ len
 
 -- which of them are unordered
 abbrev pub run-marks : List ℕ → InEdges → List Bool

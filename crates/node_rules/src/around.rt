@@ -8,7 +8,7 @@ ghost use Rattle.plan.specs.Lists.{if_then_else_, all?};
 ghost use Rattle.plan.specs.Visit.{around, outs-unordered};
 ghost use Rattle.claims.specs.Demand3.{leaving-among};
 ghost use Rattle.storage.specs.Edges.{mark, stored-edges, In-a-row};
-ghost use Rattle.node_rules.specs.Held.{In-run, run-marks};
+ghost use Rattle.node_rules.specs.Held.{Among, In-run, Run-fits, run-marks};
 use plan::rules::Around;
 use storage::edges::consumer_of;
 use storage::edges::first_into;
@@ -23,7 +23,7 @@ pub struct InEdges {
 
 // The edges into n, among the first `len`, stand in a row, from the one whose number `ends` has for it.
 pub fn in_edges_of(ends: &[u8; 544], len: usize, n: u8) -> InEdges
-    requires { ⌜ (len ≤ 256) × (n < 32) × In-a-row (now ends) len n ⌝ }
+    requires { ⌜ Among len n × In-a-row (now ends) len n ⌝ }
     ensures { λ r. ⌜ In-run (now (ends .entry)) len n r ⌝ }
 {
     let from = first_into(ends, n) as usize;
@@ -39,7 +39,7 @@ pub fn in_edges_of(ends: &[u8; 544], len: usize, n: u8) -> InEdges
 
 // Are all of them unordered?
 fn all_unordered(edges: &[u8; 512], d: InEdges) -> bool
-    requires { ⌜ (d .from ≤ d .to) × (d .to ≤ 256) ⌝ }
+    requires { ⌜ Run-fits 256 d ⌝ }
     ensures { λ r. ⌜ r ≡ all? (λ b. b) (run-marks (now (edges .entry)) d) ⌝ }
 {
     let mut r = true;
@@ -65,7 +65,7 @@ fn unordered_before(edges: &[u8; 512], k: usize, to: usize) -> bool
 
 // Are all edges out of n, among the first `len`, unordered?
 fn all_out_unordered(edges: &[u8; 512], len: usize, n: u8) -> bool
-    requires { ⌜ (len ≤ 256) × (n < 32) ⌝ }
+    requires { ⌜ Among len n ⌝ }
     ensures { λ r. ⌜ ((ends : List ℕ) → r ≡ outs-unordered n (stored-edges ends (now (edges .entry)) len)) ⌝ }
 {
     let mut r = true;
@@ -79,7 +79,7 @@ fn all_out_unordered(edges: &[u8; 512], len: usize, n: u8) -> bool
 
 // The number of the edge leaving n: the first whose producer it is, or `len` if there is none.
 pub fn leaving_edge(edges: &[u8; 512], len: usize, n: u8) -> usize
-    requires { ⌜ (len ≤ 256) × (n < 32) ⌝ }
+    requires { ⌜ Among len n ⌝ }
     ensures { λ r. ⌜ ((ends : List ℕ) → r ≡ leaving-among n (stored-edges ends (now (edges .entry)) len)) × (r ≤ len) ⌝ }
 {
     let mut k: usize = 0;
@@ -94,7 +94,7 @@ pub fn leaving_edge(edges: &[u8; 512], len: usize, n: u8) -> usize
 
 // The edges of step n among the first `len`; d are those into it.
 pub fn around_step(edges: &[u8; 512], len: usize, n: u8, d: InEdges) -> Around
-    requires { ⌜ (len ≤ 256) × (n < 32) × (d .from ≤ d .to) × (d .to ≤ len) ⌝ }
+    requires { ⌜ Among len n × Run-fits len d ⌝ }
     ensures { λ r. ⌜ ((ends : List ℕ) → In-run ends len n d → r ≡ around n (stored-edges ends (now (edges .entry)) len)) ⌝ }
 {
     let k = leaving_edge(edges, len, n);

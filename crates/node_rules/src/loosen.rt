@@ -7,7 +7,7 @@ ghost use lib.ListN.{length};
 ghost use Rattle.plan.specs.Lists.{if_then_else_};
 ghost use Rattle.plan.specs.Visit.{loosened};
 ghost use Rattle.storage.specs.Edges.{stored-edges};
-ghost use Rattle.node_rules.specs.Held.{In-run, ins-of, outs-of};
+ghost use Rattle.node_rules.specs.Held.{Among, In-run, Run-fits, ins-of, outs-of};
 use crate::around::InEdges;
 use plan::rules::Loosened;
 use storage::edges::is_out_of;
@@ -23,7 +23,7 @@ fn loosened_in(l: Loosened, k: u8) -> bool
 
 // The edges into a step, which are d.
 fn loosen_in(ends: &[u8; 544], edges: &mut [u8; 512], d: InEdges, l: Loosened)
-    requires { ⌜ (d .from ≤ d .to) × (d .to ≤ 256) × (length (now edges) ≡ 512) ⌝ }
+    requires { ⌜ Run-fits 256 d × (length (now edges) ≡ 512) ⌝ }
     ensures { λ _. ⌜ ((len n : ℕ) → len ≤ 256 → In-run (now (ends .entry)) len n d → stored-edges (now (ends .entry)) (now (edges .exit)) len ≡ map (loosened n (ins-of l)) (stored-edges (now (ends .entry)) (now (edges .entry)) len)) ⌝ }
     ensures { λ _. ⌜ length (now (edges .exit)) ≡ 512 ⌝ }
 {
@@ -39,7 +39,7 @@ fn loosen_in(ends: &[u8; 544], edges: &mut [u8; 512], d: InEdges, l: Loosened)
 
 // The edges out of n, among the first `len`.
 fn loosen_out(edges: &mut [u8; 512], len: usize, n: u8, out: bool)
-    requires { ⌜ (len ≤ 256) × (n < 32) × (length (now edges) ≡ 512) ⌝ }
+    requires { ⌜ Among len n × (length (now edges) ≡ 512) ⌝ }
     ensures { λ _. ⌜ ((ends : List ℕ) → stored-edges ends (now (edges .exit)) len ≡ map (loosened n (outs-of out)) (stored-edges ends (now (edges .entry)) len)) ⌝ }
     ensures { λ _. ⌜ length (now (edges .exit)) ≡ 512 ⌝ }
 {
@@ -63,7 +63,8 @@ pub fn loosen_edges(
     d: InEdges,
     l: Loosened,
 )
-    requires { ⌜ (len ≤ 256) × (n < 32) × (length (now edges) ≡ 512) × In-run (now ends) len n d ⌝ }
+    requires { ⌜ Among len n × (length (now edges) ≡ 512) ⌝ }
+    requires { ⌜ In-run (now ends) len n d ⌝ }
     ensures { λ _. ⌜ stored-edges (now (ends .entry)) (now (edges .exit)) len ≡ map (loosened n l) (stored-edges (now (ends .entry)) (now (edges .entry)) len) ⌝ }
     ensures { λ _. ⌜ length (now (edges .exit)) ≡ 512 ⌝ }
 {

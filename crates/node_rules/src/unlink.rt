@@ -6,7 +6,7 @@ ghost use lib.ListN.{length};
 ghost use Rattle.plan.specs.Visit.{in-edge};
 ghost use Rattle.storage.specs.Stored.{stored-steps, Steps-held};
 ghost use Rattle.storage.specs.Edges.{producer-of, stored-edges};
-ghost use Rattle.node_rules.specs.Held.{In-run, handed-on, cut-off, Edges-held, Unlinkable, Unlinked};
+ghost use Rattle.node_rules.specs.Held.{Among, In-run, Run-fits, handed-on, cut-off, Edges-held, Unlinkable, Unlinked};
 use crate::around::InEdges;
 use crate::around::leaving_edge;
 use storage::edges::GraphSize;
@@ -21,7 +21,7 @@ use storage::store::store_input;
 
 // The edges out of n, among the first `len`, are produced by `from`.
 fn hand_on(edges: &mut [u8; 512], len: usize, n: u8, from: u8)
-    requires { ⌜ (len ≤ 256) × (n < 32) × (length (now edges) ≡ 512) ⌝ }
+    requires { ⌜ Among len n × (length (now edges) ≡ 512) ⌝ }
     ensures { λ _. ⌜ ((ends : List ℕ) → stored-edges ends (now (edges .exit)) len ≡ map (handed-on n (producer-of from)) (stored-edges ends (now (edges .entry)) len)) ⌝ }
     ensures { λ _. ⌜ length (now (edges .exit)) ≡ 512 ⌝ }
 {
@@ -35,7 +35,7 @@ fn hand_on(edges: &mut [u8; 512], len: usize, n: u8, from: u8)
 
 // The edges into a step, which are d, lose their producer (255) and are unordered.
 fn cut_off(edges: &mut [u8; 512], d: InEdges)
-    requires { ⌜ (d .from ≤ d .to) × (d .to ≤ 256) × (length (now edges) ≡ 512) ⌝ }
+    requires { ⌜ Run-fits 256 d × (length (now edges) ≡ 512) ⌝ }
     ensures { λ _. ⌜ ((ends : List ℕ) (len n : ℕ) → len ≤ 256 → In-run ends len n d → stored-edges ends (now (edges .exit)) len ≡ map (cut-off n) (stored-edges ends (now (edges .entry)) len)) ⌝ }
     ensures { λ _. ⌜ length (now (edges .exit)) ≡ 512 ⌝ }
 {

@@ -1,12 +1,11 @@
 -- Tests, and tests of every entry of a list.
 use mathlib.Core.Path.{_≡_, refl, ap, subst}
-use mathlib.Core.Logic.{_≢_}
 use Prim.Native.Nat.{ℕ, zero, suc, _+_, _<_}
 use native.Mathlib.Omega.{arith}
 use native.Mathlib.Nat.{not-suc-le-zero}
 use mathlib.Core.Bool.{Bool, true, false, _&&_, and-eq-true-iff}
 use mathlib.Core.List.{List, [], _∷_, _++_, List·Memᴰ, List·Memᴰ·head, List·Memᴰ·tail}
-use lib.Dec.{T, eqb, eqb→eq, eqb-refl}
+use lib.Dec.{T, eqb, eqb-refl}
 use lib.ListN.{length, getD}
 use Rattle.plan.specs.Lists.{all?, numbered}
 use Rattle.plan.proofs.ListLaws as passed
@@ -27,9 +26,6 @@ T-eq true true f g = refl
 T-eq true false f g = absurd (f tt)
 T-eq false true f g = absurd (g tt)
 T-eq false false f g = refl
-
-pub differ : (m n : ℕ) → m ≢ n → eqb m n ≡ false
-differ m n h = T-eq (eqb m n) false (λ t. h (eqb→eq m n t)) (λ t. absurd t)
 
 pub equal : (m n : ℕ) → m ≡ n → T (eqb m n)
 equal m n e = subst (λ x. T (eqb m x)) e (eqb-refl m)

@@ -10,7 +10,7 @@ use lib.Dec.{T, eqb, eqb→eq, eqb-refl}
 use lib.ListN.{length, getD}
 use Rattle.plan.specs.Lists.{if_then_else_, select, sum, concat-map, numbered, times, any?, among}
 use Rattle.plan.proofs.ListLaws.{sum-append}
-use Rattle.plan.proofs.Booleans.{differ}
+use borrow.Author.Tests.{ne-eqb}
 
 -- Tests as equations --------------------------------------------------------------------------------------------------------
 
@@ -230,7 +230,7 @@ same-number n = true-of (eqb n n) (eqb-refl n)
 
 pub times-other : (m n : ℕ) (l : List ℕ) → m ≢ n → times m (n ∷ l) ≡ times m l
 unfolding sum
-times-other m n l h = rw (differ m n h) (omega arith)
+times-other m n l h = rw (ne-eqb m n h) (omega arith)
 
 pub times-same : (n : ℕ) (l : List ℕ) → times n (n ∷ l) ≡ 1 + times n l
 unfolding sum

@@ -19,7 +19,7 @@ use Rattle.storage.specs.Stored.{stored-exprs, stored-steps, table}
 use Rattle.storage.proofs.Laws.{length-exprs, length-steps}
 use Rattle.storage.proofs.Changes.{step-take}
 use Rattle.reading.specs.Line.{line, ended, numbers-after, numbers-of, Kept, All-read}
-use Rattle.reading.specs.Tables.{row, expr-numbers-fit, step-numbers-fit, most-a, most-b, most-c, inputs, exprs, most-aggs, within}
+use Rattle.reading.specs.Tables.{row, expr-numbers-fit, step-numbers-fit, most-a, most-b, most-c, inputs, exprs, most-aggs, within, Few-entries}
 use Rattle.reading.specs.Lines.{pasted, sheet-of, agg-entries, aggs-of, Sound, Line-taken}
 use Rattle.reading.specs.declared.line.Numbers.{Numbers}
 use Rattle.reading.specs.declared.lines.LineCounts.{LineCounts}
@@ -411,14 +411,14 @@ module _ (s v : List ℕ) (f : Numbers) (A : All-read s f v) where
               ap (λ o. read-line o (sheet-of es ps t)) P-is
               ∙ step-over (A .list) (sheet-of es ps t) (P-fits e ∙ y) (full-aggs es ps t snd (step-of (A .list)) (let z = entries-are in omega arith))
 
-          pub P-taken : (ps′ : List ℕ) → t .steps < 32 → t .exprs + (t .aggs + a) ≤ 128 → (getD v 4 0 ≤ 8) × ((getD v 5 0 ≤ 8) × (getD v 6 0 ≤ 8)) → length ps ≡ 1024
+          pub P-taken : (ps′ : List ℕ) → t .steps < 32 → t .exprs + (t .aggs + a) ≤ 128 → Few-entries (getD v 4 0) (getD v 5 0) (getD v 6 0) → length ps ≡ 1024
               → ps′ ≡ pasted ps (t .steps * 32) v 32
               → Line-taken (lettered (80 ∷ []) (numbers-of s)) (80 ∷ s) es ps es ps′ t (record { exprs = t .exprs; aggs = t .aggs + a; steps = t .steps + 1 }) (f .len + 1)
           unfolding with-step
           P-taken ps′ n m c l p =
               let u : take (f .count) v ≡ A .list = ap (λ m. take m v) (A .count) ∙ kept-all (A .list) v (A .kept) (let z = A .count in let w = adds-up in omega arith) in
               let w : step-of v ≡ step-of (A .list) = sym (step-take v (f .count) (let w = adds-up in omega arith)) ∙ ap step-of u in
-              let more = ap (λ x. stored-steps x (t .steps + 1)) p ∙ more-steps ps v (t .steps) n l (A .kept .size) (c .0) (c .1 .0) (c .1 .1) (snd .steps) ∙ ap (λ x. stored-steps ps (t .steps) ++ (x ∷ [])) w in
+              let more = ap (λ x. stored-steps x (t .steps + 1)) p ∙ more-steps ps v (t .steps) n l (A .kept .size) (c .inputs) (c .exprs) (c .aggs) (snd .steps) ∙ ap (λ x. stored-steps ps (t .steps) ++ (x ∷ [])) w in
               record {
                 taken =
                     ap (λ o. read-line o (sheet-of es ps t)) P-is
@@ -426,7 +426,7 @@ module _ (s v : List ℕ) (f : Numbers) (A : All-read s f v) where
                     ∙ ap (λ (x : List Step). done (record { exprs = stored-exprs es (t .exprs); steps = x })) (sym more);
                 sound = record {
                   exprs = snd .exprs;
-                  steps = rw p (steps-formed ps v (t .steps) n l (A .kept .size) (c .0) (c .1 .0) (c .1 .1) (snd .steps) (fit-kind _ _ _ _ _ _ _ _ (sym e ∙ y) .0));
+                  steps = rw p (steps-formed ps v (t .steps) n l (A .kept .size) (c .inputs) (c .exprs) (c .aggs) (snd .steps) (fit-kind _ _ _ _ _ _ _ _ (sym e ∙ y) .0));
                   aggs = (let z = snd .aggs in let u = entries-are in let y = agg-more (stored-steps ps (t .steps)) (step-of (A .list)) in omega (arith, ap agg-entries more));
                   few-exprs = omega arith;
                   few-steps = omega arith;

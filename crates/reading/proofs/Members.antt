@@ -1,7 +1,7 @@
 -- Membership, and what lies under an evaluation child.
 use mathlib.Core.Path.{_≡_, refl, sym, ap, _∙_, subst}
 use mathlib.Core.Logic.{_⊎_, inl, inr}
-use mathlib.Core.Bool.{Bool, true, false, _&&_, _||_, not}
+use mathlib.Core.Bool.{Bool, true, false, _||_, not}
 use mathlib.Core.List.{List, [], _∷_, _++_}
 use Prim.Native.Nat.{ℕ, zero, suc, _+_, _<_, _≤_}
 use native.Mathlib.Omega.{arith}
@@ -14,6 +14,7 @@ use Rattle.plan.specs.Kinds.{same-aexpr}
 use Rattle.plan.specs.Lists.{if_then_else_, all?, any?, sum, concat-map, numbered, among, times, rest, empty?}
 use Rattle.plan.specs.Sheet.{Expr, expr-at, no-expr}
 use Rattle.plan.specs.Faults.{children-earlier, reach, tree, evaluated}
+use Rattle.plan.proofs.Booleans.{and-left, and-right}
 
 pub data In {A : Type 0} (x : A) : List A → Type 0 where
   here : {l : List A} → In x (x ∷ l)
@@ -107,24 +108,16 @@ same-tests q l m f g = by (leb 1 (times q l)) (among q m) refl refl
     by true false e h = let w = sym h ∙ in-among q (f (times-in q l (leb-true 1 (times q l) e))) in let z : _≡_ {A = ℕ} 0 1 = cc in absurd (omega arith)
     by false true e h = let w = in-times q (g (among-in q m h)) in let z = leb-false 1 (times q l) e in absurd (omega arith)
 
-left-of : (a b : Bool) → (a && b) ≡ true → a ≡ true
-left-of true b e = refl
-left-of false b e = e
-
-right-of : (a b : Bool) → (a && b) ≡ true → b ≡ true
-right-of true b e = e
-right-of false b e = let z : _≡_ {A = ℕ} 0 1 = cc in absurd (omega arith)
-
 pub all-in : (f : ℕ → Bool) (l : List ℕ) → all? f l ≡ true → (q : ℕ) → In q l → f q ≡ true
 unfolding all?
-all-in f (x ∷ l) e q here = left-of (f x) (all? f l) e
-all-in f (x ∷ l) e q (there i) = all-in f l (right-of (f x) (all? f l) e) q i
+all-in f (x ∷ l) e q here = and-left (f x) (all? f l) e
+all-in f (x ∷ l) e q (there i) = all-in f l (and-right (f x) (all? f l) e) q i
 
 pub all-numbered-at : {A : Type 0} (f : ℕ × A → Bool) (k : ℕ) (l : List A) (d : A) → all? f (numbered k l) ≡ true → (i : ℕ) → i < length l → f (k + i, getD l i d) ≡ true
 unfolding all? numbered
 all-numbered-at f k [] d e i h = absurd (omega arith)
-all-numbered-at f k (x ∷ l) d e zero h = ap (λ j. f (j, x)) (omega arith) ∙ left-of (f (k, x)) _ e
-all-numbered-at f k (x ∷ l) d e (suc i) h = ap (λ j. f (j, getD l i d)) (omega arith) ∙ all-numbered-at f (suc k) l d (right-of (f (k, x)) _ e) i (omega arith)
+all-numbered-at f k (x ∷ l) d e zero h = ap (λ j. f (j, x)) (omega arith) ∙ and-left (f (k, x)) _ e
+all-numbered-at f k (x ∷ l) d e (suc i) h = ap (λ j. f (j, getD l i d)) (omega arith) ∙ all-numbered-at f (suc k) l d (and-right (f (k, x)) _ e) i (omega arith)
 
 pub all-numbered-same : {A : Type 0} (f g : ℕ × A → Bool) (k : ℕ) (l : List A) → ((i : ℕ) → i < k + length l → (x : A) → f (i, x) ≡ g (i, x)) → all? f (numbered k l) ≡ all? g (numbered k l)
 unfolding all? numbered

@@ -10,7 +10,7 @@ use borrow.Author.Tests.{lt-ltb, le-ltb, le-leb, lt-leb, eq-eqb, ne-eqb, leb-tru
 use Rattle.plan.specs.Lists.{among}
 use Rattle.plan.specs.Sheet.{step-table}
 use Rattle.plan.proofs.ListLaws.{and-left, and-right}
-use Rattle.reading.specs.Tables.{row-of, row, expr-numbers-fit, limits, between, most-a, most-b, most-c, inputs, exprs, most-aggs, within, step-numbers-fit}
+use Rattle.reading.specs.Tables.{row-of, row, expr-numbers-fit, limits, between, most-a, most-b, most-c, inputs, exprs, most-aggs, within, step-numbers-fit, Few-entries}
 use Rattle.reading.specs.declared.tables.Row.{Row}
 use Rattle.reading.specs.declared.tables.Range.{Range}
 use Rattle.reading.proofs.Spans.{or-left, Apart, apart, each, on, span}
@@ -212,5 +212,5 @@ pub second-out : {r s : Bool} (a b c : Bool) → r ≡ a → s ≡ b → r ≡ t
 second-out a b c e f g h = rw (← e, ← f, g, h)
 
 pub all-in : {r s : Bool} (a b : Bool) (n1 n2 n3 m k : ℕ) → r ≡ a → s ≡ b → r ≡ true → s ≡ true → m ≡ k → n1 ≤ 8 → n2 ≤ 8 → m ≤ 8
-    → (leb n3 m ≡ (a && b && leb n3 k)) × (leb n3 m ≡ true → (n1 ≤ 8) × ((n2 ≤ 8) × (n3 ≤ 8)))
-all-in a b n1 n2 n3 m k e f g h i p q o = (rw (← e, ← f, g, h, i), λ t. (p, (q, (let l = leb-true n3 m t in omega arith))))
+    → (leb n3 m ≡ (a && b && leb n3 k)) × (leb n3 m ≡ true → Few-entries n1 n2 n3)
+all-in a b n1 n2 n3 m k e f g h i p q o = (rw (← e, ← f, g, h, i), λ t. record { inputs = p; exprs = q; aggs = let l = leb-true n3 m t in omega arith })

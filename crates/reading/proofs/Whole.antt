@@ -1,6 +1,6 @@
 -- From one line at the front of the bytes to all lines.
 use mathlib.Core.Path.{_≡_, refl, sym, ap, _∙_, subst}
-use mathlib.Core.Bool.{Bool, true, false, _&&_}
+use mathlib.Core.Bool.{Bool, true, false, and-false}
 use mathlib.Core.List.{List, [], _∷_}
 use mathlib.Core.Option.{Option, none, some}
 use Prim.Native.Nat.{ℕ, suc, _-_, _<_, _≤_}
@@ -20,10 +20,6 @@ use Rattle.reading.specs.declared.lines.Reading.{Reading}
 use Rattle.reading.specs.declared.lines.Reading.the-variants.{Taken, Refused}
 
 -- The letter -----------------------------------------------------------------------------------------------------------------
-
-and-false : (a : Bool) → (a && false) ≡ false
-and-false true = refl
-and-false false = refl
 
 no-letter : (l : List ℕ) (o : Option (List ℕ)) → same l (69 ∷ []) ≡ false → same l (80 ∷ []) ≡ false → lettered l o ≡ none
 unfolding lettered

@@ -3,7 +3,7 @@ use Prim.Native.Nat.{ℕ, _+_, _*_, _<_, _≤_}
 use mathlib.Core.List.{List, _++_}
 use mathlib.Core.Bool.{Bool, _&&_, not}
 use lib.Dec.{eqb, ltb}
-use lib.ListN.{getD}
+use lib.ListN.{length, getD}
 use Rattle.plan.specs.Sheet.{Step, Sheet}
 use Rattle.storage.specs.Stored.{stored-exprs, stored-steps, Expr-formed, Step-formed}
 
@@ -29,6 +29,12 @@ sheet es n ps m = record { exprs = stored-exprs es n; steps = stored-steps ps m 
 -- the expressions that a step names
 abbrev pub both : Step → List ℕ
 both s = s .exprs ++ s .aggs
+
+-- n inputs of line i, from byte `at` on, can be read, and so can the lines before it
+pub record Inputs-readable (ps : List ℕ) (at n i : ℕ) : Type 0 where
+  pub room : at + n ≤ length ps
+  pub few : i ≤ 32
+  pub size : 1024 ≤ length ps
 
 -- an input that stands before line i and is no Sink
 abbrev pub before-no-sink : List ℕ → ℕ → ℕ → Bool

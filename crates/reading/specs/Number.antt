@@ -1,5 +1,6 @@
 -- A number of a line, as the code meets it: at the front of the bytes that follow a comma.
-use Prim.Native.Nat.{ℕ, zero, suc, _-_}
+use Prim.Native.Nat.{ℕ, zero, suc, _-_, _<_}
+use mathlib.Core.Path.{_≡_}
 use mathlib.Core.Bool.{Bool, true, false, _||_}
 use mathlib.Core.List.{List, [], _∷_}
 use mathlib.Core.Option.{Option, none, some}
@@ -38,6 +39,14 @@ unfoldable pub digit-at : List ℕ → ℕ → ℕ
 digit-at [] i = 10
 digit-at (x ∷ xs) zero = digit-of x
 digit-at (x ∷ xs) (suc i) = digit-at xs i
+
+-- a and b are the first two digits of the bytes, and the number does not begin with 0
+pub record Two-digits (s : List ℕ) (a b : ℕ) : Type 0 where
+  pub first : a ≡ digit-at s 0
+  pub second : b ≡ digit-at s 1
+  pub not-zero : 0 < a
+  pub first-digit : a < 10
+  pub second-digit : b < 10
 
 -- how many bytes a number is written with
 abbrev pub width : Number → ℕ

@@ -1,5 +1,5 @@
 -- The tables of the definition, by a line's numbers.
-use Prim.Native.Nat.{ℕ, _+_}
+use Prim.Native.Nat.{ℕ, _+_, _≤_}
 use mathlib.Core.Bool.{Bool, _&&_, _||_, not}
 use lib.Dec.{eqb, ltb, leb}
 use lib.ListN.{getD}
@@ -58,3 +58,9 @@ step-numbers-fit k a b c n1 n2 n3 n =
     && (leb a (most-a k) && leb b (most-b k) && leb c (most-c k))
     && (within n1 (inputs k) && within n2 (exprs k) && leb n3 (most-aggs k))
     && (not (eqb k 2 && eqb b 0) || eqb n2 0)
+
+-- none of a line's three lists has more than eight entries
+pub record Few-entries (n1 n2 n3 : ℕ) : Type 0 where
+  pub inputs : n1 ≤ 8
+  pub exprs : n2 ≤ 8
+  pub aggs : n3 ≤ 8

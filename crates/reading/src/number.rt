@@ -1,7 +1,7 @@
 // A number of a line: base ten, 0 to 255, without leading zeros.
 ghost use mathlib.Core.Path.{_≡_};
-ghost use Prim.Native.Nat.{_≤_, _<_};
-ghost use Rattle.reading.specs.Number.{digit-of, digit-at, number-at};
+ghost use Prim.Native.Nat.{_≤_};
+ghost use Rattle.reading.specs.Number.{digit-of, digit-at, number-at, Two-digits};
 
 pub enum Number {
     // The value, and how many bytes it is written with.
@@ -46,7 +46,7 @@ fn wide(x: u8) -> u64
 
 // A number of two digits or three, whose first two are a and b.
 fn read_long(s: &[u8], a: u8, b: u8) -> Number
-    requires { ⌜ ((a ≡ digit-at (now s) 0) × (b ≡ digit-at (now s) 1)) × ((0 < a) × ((a < 10) × (b < 10))) ⌝ }
+    requires { ⌜ Two-digits (now s) a b ⌝ }
     ensures { λ r. ⌜ r ≡ number-at (now (s .entry)) ⌝ }
 {
     let c = digit_at(s, 2);

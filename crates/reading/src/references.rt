@@ -8,7 +8,7 @@ ghost use Rattle.plan.specs.Lists.{all?, numbered};
 ghost use Rattle.plan.specs.Sheet.{Expr};
 ghost use Rattle.plan.specs.Faults.{lines, children-earlier, inputs-earlier, references-right};
 ghost use Rattle.storage.specs.Stored.{stored-expr, stored-step, stored-exprs, stored-steps, Steps-held};
-ghost use Rattle.reading.specs.Held.{children-of, Exprs-held, Step-held, sheet, both, before-no-sink};
+ghost use Rattle.reading.specs.Held.{children-of, Exprs-held, Step-held, sheet, both, Inputs-readable, before-no-sink};
 
 fn wide(x: u8) -> usize
     ensures { λ r. ⌜ (r ≡ x) × (r < 256) ⌝ }
@@ -55,7 +55,7 @@ pub fn all_children_earlier(exprs: &[u8; 2048], n: usize) -> bool
 
 // Are the n numbers from the place `at` on all lines before the i-th, and none a Sink?
 fn all_before(steps: &[u8], at: usize, n: usize, i: usize) -> bool
-    requires { ⌜ (at + n ≤ length (now steps)) × ((i ≤ 32) × (1024 ≤ length (now steps))) ⌝ }
+    requires { ⌜ Inputs-readable (now steps) at n i ⌝ }
     ensures { λ r. ⌜ r ≡ all? (before-no-sink (now (steps .entry)) i) (take n (drop at (now (steps .entry)))) ⌝ }
 {
     let mut j: usize = 0;

@@ -3,7 +3,7 @@ ghost use mathlib.Core.Path.{_≡_};
 ghost use mathlib.Core.Bool.{true, _&&_};
 ghost use Prim.Native.Nat.{_+_, _≤_, _<_};
 ghost use lib.Dec.{leb};
-ghost use Rattle.reading.specs.Tables.{row, expr-numbers-fit, most-a, most-b, most-c, inputs, exprs, most-aggs, within, step-numbers-fit};
+ghost use Rattle.reading.specs.Tables.{row, expr-numbers-fit, most-a, most-b, most-c, inputs, exprs, most-aggs, within, step-numbers-fit, Few-entries};
 
 // The fewest and the most children of an expression, and its largest option.
 pub struct Row {
@@ -309,7 +309,7 @@ fn options_fit(kind: u8, a: u8, b: u8, c: u8) -> bool
 }
 
 fn counts_fit(kind: u8, n1: u8, n2: u8, n3: u8) -> bool
-    ensures { λ r. ⌜ (r ≡ (within n1 (inputs kind) && within n2 (exprs kind) && leb n3 (most-aggs kind))) × (r ≡ true → (n1 ≤ 8) × ((n2 ≤ 8) × (n3 ≤ 8))) ⌝ }
+    ensures { λ r. ⌜ (r ≡ (within n1 (inputs kind) && within n2 (exprs kind) && leb n3 (most-aggs kind))) × (r ≡ true → Few-entries n1 n2 n3) ⌝ }
 {
     if !within(n1, inputs(kind)) {
         return false;
@@ -322,7 +322,7 @@ fn counts_fit(kind: u8, n1: u8, n2: u8, n3: u8) -> bool
 
 // A P line's numbers, with the count of all of them. A Sink that is not partitioned has no expression.
 pub fn step_fits(kind: u8, a: u8, b: u8, c: u8, n1: u8, n2: u8, n3: u8, count: usize) -> bool
-    ensures { λ r. ⌜ (r ≡ step-numbers-fit kind a b c n1 n2 n3 count) × (r ≡ true → (n1 ≤ 8) × ((n2 ≤ 8) × (n3 ≤ 8))) ⌝ }
+    ensures { λ r. ⌜ (r ≡ step-numbers-fit kind a b c n1 n2 n3 count) × (r ≡ true → Few-entries n1 n2 n3) ⌝ }
 {
     if 19 <= kind {
         return false;

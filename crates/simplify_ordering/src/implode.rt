@@ -7,7 +7,7 @@ ghost use Rattle.plan.specs.Sheet.{expr-at, step-at};
 ghost use Rattle.storage.specs.Stored.{arena-of, stored-steps, Steps-held};
 ghost use Rattle.plan.specs.Visit.{implode, imploded, implode-over, with-aggs};
 ghost use Rattle.simplify_ordering.specs.Arena.{Arena-held};
-ghost use Rattle.storage.specs.Steps.{with-agg};
+ghost use Rattle.storage.specs.Steps.{Has-agg, with-agg};
 use storage::exprs::is_scalar;
 use storage::records::store_implode;
 use storage::steps::aggs_of;
@@ -51,7 +51,7 @@ fn implode_agg(
     n: usize,
     q: u8,
 ) -> usize
-    requires { ⌜ Steps-held (now steps) «n_steps» × (i < «n_steps») × (k < getD (now steps) (i * 32 + 6) 0) ⌝ }
+    requires { ⌜ Has-agg (now steps) «n_steps» i k ⌝ }
     requires { ⌜ Arena-held (now recs) (now line) (now off) n × (q < n) ⌝ }
     requires { ⌜ q ≡ getD (step-at (stored-steps (now steps) «n_steps») i .aggs) k 0 ⌝ }
     requires { ⌜ length (implode q (arena-of (now recs) (now line) (now off) n) .1) ≤ 128 ⌝ }

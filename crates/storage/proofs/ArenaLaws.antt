@@ -11,7 +11,7 @@ use lib.Seq.{getD-set-same, getD-set-other, drop-set-add}
 use Rattle.plan.specs.Sheet.{Expr, expr-of}
 use Rattle.plan.specs.Look.{switched-off}
 use Rattle.storage.specs.Stored.{stored-expr, stored-exprs, held-expr, arena-of, Expr-formed, Lines-held}
-use Rattle.storage.specs.Exprs.{Expr-stored}
+use Rattle.storage.specs.Exprs.{Line-held, Expr-stored}
 use Rattle.storage.proofs.Laws.{same-table}
 use Rattle.storage.proofs.RecordLaws.{sixteen, same-byte, same-sixteen, same-record, bytes-kept}
 
@@ -138,8 +138,14 @@ module _ (recs line : List ℕ) (off : List Bool) (n : ℕ) (held : Lines-held r
     low : base ≤ p
     low = held .below p (omega (arith, k .most))
 
-    pub line-held : (p < 128) × (length bytes ≡ 2048) × (base ≤ p) × Expr-formed bytes base
-    line-held = (omega (arith, k .most, held .few), k .size, low, k .formed base (omega (arith, low, k .most)))
+    pub line-held : Line-held bytes line p
+    line-held =
+        record {
+          few = omega (arith, k .most, held .few);
+          records = k .size;
+          below = low;
+          formed = k .formed base (omega (arith, low, k .most));
+        }
 
     -- the record that it holds is as it was
     holds : held-expr bytes line off p ≡ held-expr recs line off p

@@ -14,10 +14,18 @@ use Rattle.plan.specs.Sheet.{expr-of}
 use Rattle.storage.specs.Stored.{stored-expr, Expr-formed}
 use Rattle.storage.specs.Exprs.{held, IsHeld}
 
+-- each of the first four bytes is on the line
+on-line : (bytes : List ℕ) (l j : ℕ) → j < 4 → getD bytes (l * 16 + j) 0 ≡ getD (take (4 + getD bytes (l * 16 + 12) 0) (drop (l * 16) bytes)) j 0
+on-line bytes l j h =
+    sym (getD-take (4 + getD bytes (l * 16 + 12) 0) (drop (l * 16) bytes) j 0 (omega arith) ∙ getD-drop (l * 16) bytes j 0)
+
 pub stored-scalar : (bytes : List ℕ) (l : ℕ) → eqb (getD bytes (l * 16 + 1) 0) 1 ≡ stored-expr bytes l .scalar
 unfolding stored-expr expr-of
-stored-scalar bytes l =
-    ap (λ (k : ℕ). eqb k 1) (sym (getD-take (4 + getD bytes (l * 16 + 12) 0) (drop (l * 16) bytes) 1 0 (omega arith) ∙ getD-drop (l * 16) bytes 1 0))
+stored-scalar bytes l = ap (λ (k : ℕ). eqb k 1) (on-line bytes l 1 (omega arith))
+
+pub stored-length-preserving : (bytes : List ℕ) (l : ℕ) → eqb (getD bytes (l * 16 + 2) 0) 1 ≡ stored-expr bytes l .length-preserving
+unfolding stored-expr expr-of
+stored-length-preserving bytes l = ap (λ (k : ℕ). eqb k 1) (on-line bytes l 2 (omega arith))
 
 module _ (b : List ℕ) (l : ℕ) (room : l * 16 + 16 ≤ length b) (formed : Expr-formed b l) where
   abbrev at : ℕ → ℕ

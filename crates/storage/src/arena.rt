@@ -1,13 +1,12 @@
 // The arena written out in place: each line's record, as the line holds it when the walks end, becomes the record of that number.
 ghost use mathlib.Core.Path.{_≡_};
-ghost use Prim.Native.Nat.{ℕ, _≤_, _<_};
-ghost use lib.ListN.{length, getD};
+ghost use Prim.Native.Nat.{ℕ, _<_};
 ghost use Rattle.storage.specs.Stored.{stored-expr, held-expr, arena-of, stored-exprs, Expr-formed, Lines-held};
-ghost use Rattle.storage.specs.Exprs.{Expr-stored};
+ghost use Rattle.storage.specs.Exprs.{Copyable, Line-held, Expr-stored};
 
 // Record l over record p, which is behind it.
 fn copy_record(recs: &mut [u8; 2048], l: usize, p: usize)
-    requires { ⌜ (l < p) × (p < 128) × (length (now recs) ≡ 2048) × Expr-formed (now recs) l ⌝ }
+    requires { ⌜ Copyable (now recs) l p ⌝ }
     ensures { λ _. ⌜ Expr-stored (now (recs .entry)) p (stored-expr (now (recs .entry)) l) (now (recs .exit)) ⌝ }
 {
     let a = l * 16;
@@ -21,7 +20,7 @@ fn copy_record(recs: &mut [u8; 2048], l: usize, p: usize)
 
 // The record that line p holds; the option of an Implode that is switched off is 0.
 fn store_line(recs: &mut [u8; 2048], line: &[u8; 128], off: &[bool; 128], p: usize)
-    requires { ⌜ (p < 128) × (length (now recs) ≡ 2048) × (getD (now line) p 0 ≤ p) × Expr-formed (now recs) (getD (now line) p 0) ⌝ }
+    requires { ⌜ Line-held (now recs) (now line) p ⌝ }
     ensures { λ _. ⌜ Expr-stored (now (recs .entry)) p (held-expr (now (recs .entry)) (now (line .entry)) (now (off .entry)) p) (now (recs .exit)) ⌝ }
 {
     let l = line[p] as usize;

@@ -1,9 +1,8 @@
 // What is read of a stored expression: the record that a line of the arena holds.
 ghost use mathlib.Core.Path.{_≡_};
-ghost use Prim.Native.Nat.{_+_, _*_, _<_, _≤_};
-ghost use lib.ListN.{length};
-ghost use Rattle.storage.specs.Stored.{stored-expr, Expr-formed};
-ghost use Rattle.storage.specs.Exprs.{IsHeld};
+ghost use Prim.Native.Nat.{_<_};
+ghost use Rattle.storage.specs.Stored.{stored-expr};
+ghost use Rattle.storage.specs.Exprs.{Record-held, IsHeld};
 use plan::aexpr::AExpr;
 use plan::choice::pick_byte;
 
@@ -19,7 +18,7 @@ pub struct ExprRecord {
 
 // The record that was stored as line l, its option 0 where it was switched off.
 pub fn expr_of(recs: &[u8; 2048], l: u8, off: bool) -> ExprRecord
-    requires { ⌜ (l < 128) × (l * 16 + 16 ≤ length (now recs)) × Expr-formed (now recs) l ⌝ }
+    requires { ⌜ Record-held (now recs) l ⌝ }
     ensures { λ r. ⌜ IsHeld (now (recs .entry)) l off r ⌝ }
 {
     let b = (l as usize) * 16;
@@ -49,4 +48,12 @@ pub fn is_scalar(recs: &[u8; 2048], l: u8) -> bool
 {
     let b = (l as usize) * 16;
     recs[b + 1] == 1
+}
+
+pub fn is_length_preserving(recs: &[u8; 2048], l: u8) -> bool
+    requires { ⌜ l < 128 ⌝ }
+    ensures { λ r. ⌜ r ≡ stored-expr (now (recs .entry)) l .length-preserving ⌝ }
+{
+    let b = (l as usize) * 16;
+    recs[b + 2] == 1
 }

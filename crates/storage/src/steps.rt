@@ -1,13 +1,13 @@
 // What is read of a stored step: its kind and options, its first input, and its two lists of expressions.
 ghost use mathlib.Core.Path.{_≡_};
-ghost use Prim.Native.Nat.{_+_, _*_, _≤_, _<_};
-ghost use lib.ListN.{length, getD, take, drop};
+ghost use Prim.Native.Nat.{_<_};
+ghost use lib.ListN.{getD, take, drop};
 ghost use Rattle.plan.specs.declared.ir.IR.{IR};
 ghost use Rattle.plan.specs.Kinds.{same-ir};
 ghost use Rattle.plan.specs.Sheet.{step-at};
 ghost use Rattle.storage.specs.Stored.{stored-step, stored-steps, Steps-held};
 ghost use Rattle.plan.specs.Visit.{options-of};
-ghost use Rattle.storage.specs.Steps.{Is-list};
+ghost use Rattle.storage.specs.Steps.{Has-input, Room-for-list, Is-list};
 use plan::ir::IR;
 use plan::rules::Options;
 
@@ -42,7 +42,7 @@ pub fn cache_id(steps: &[u8; 1024], i: usize) -> u8
 
 // The first input of a step that has one.
 pub fn first_input(steps: &[u8; 1024], n: usize, i: usize) -> u8
-    requires { ⌜ Steps-held (now steps) n × (i < n) × (1 ≤ getD (now steps) (i * 32 + 4) 0) ⌝ }
+    requires { ⌜ Has-input (now steps) n i ⌝ }
     ensures { λ r. ⌜ r ≡ getD (step-at (stored-steps (now (steps .entry)) n) i .inputs) 0 0 ⌝ }
 {
     steps[i * 32 + 7]
@@ -56,7 +56,7 @@ pub struct Entries {
 
 // The list of at most eight that stands from byte b on.
 fn entries_from(steps: &[u8; 1024], b: usize, count: u8) -> Entries
-    requires { ⌜ (b + 8 ≤ 1024) × (count ≤ 8) × (length (now steps) ≡ 1024) ⌝ }
+    requires { ⌜ Room-for-list (now steps) b count ⌝ }
     ensures { λ r. ⌜ Is-list (take count (drop b (now (steps .entry)))) r ⌝ }
 {
     Entries {

@@ -4,6 +4,7 @@ ghost use Prim.Native.Nat.{_+_, _*_, _<_};
 ghost use lib.ListN.{getD, set};
 ghost use Rattle.plan.specs.Sheet.{step-at};
 ghost use Rattle.storage.specs.Stored.{stored-steps, Steps-held};
+ghost use Rattle.storage.specs.Steps.{Has-agg};
 ghost use Rattle.plan.specs.Visit.{with-options, with-input, with-aggs};
 use plan::rules::Options;
 
@@ -36,8 +37,7 @@ pub fn store_input(steps: &mut [u8; 1024], n: usize, i: usize, slot: usize, inpu
 
 // Entry k of the n3 list of step i.
 pub fn store_agg(steps: &mut [u8; 1024], n: usize, i: usize, k: usize, agg: u8)
-    requires { ⌜ Steps-held (now steps) n ⌝ }
-    requires { ⌜ (i < n) × (k < getD (now steps) (i * 32 + 6) 0) ⌝ }
+    requires { ⌜ Has-agg (now steps) n i k ⌝ }
     ensures { λ _. ⌜ stored-steps (now (steps .exit)) n ≡ set (stored-steps (now (steps .entry)) n) i (with-aggs (set (step-at (stored-steps (now (steps .entry)) n) i .aggs) k agg) (step-at (stored-steps (now (steps .entry)) n) i)) ⌝ }
     ensures { λ _. ⌜ Steps-held (now (steps .exit)) n ⌝ }
 {

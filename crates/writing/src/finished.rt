@@ -1,5 +1,4 @@
 // The whole finished sheet, block by block.
-ghost use mathlib.Core.Path.{_≡_};
 ghost use mathlib.Core.List.{[], _∷_};
 ghost use Prim.Native.Nat.{ℕ, _≤_, _<_};
 ghost use lib.ListN.{length};
@@ -7,7 +6,7 @@ ghost use Rattle.plan.specs.Lists.{concat-map};
 ghost use Rattle.plan.specs.Text.{line, expr-line, step-line, edge-line};
 ghost use Rattle.storage.specs.Edges.{stored-edges};
 ghost use Rattle.storage.specs.Stored.{stored-exprs, stored-steps, Expr-formed, Step-formed};
-ghost use Rattle.writing.specs.Blocks.{Sheet-wrote};
+ghost use Rattle.writing.specs.Blocks.{Few-lines, Figures-told, Sheet-wrote};
 use crate::blocks::put_edges;
 use crate::blocks::put_exprs;
 use crate::blocks::put_steps;
@@ -39,11 +38,11 @@ pub fn put_finished(
     t: Tallies,
 ) -> Finished
     requires { ⌜ 16384 ≤ length (now out) ⌝ }
-    requires { ⌜ (n .exprs ≤ 128) × (n .steps ≤ 32) × (n .edges ≤ 256) ⌝ }
+    requires { ⌜ Few-lines n ⌝ }
     requires { ⌜ ((i : ℕ) → i < n .exprs → Expr-formed (now exprs) i) ⌝ }
     requires { ⌜ ((i : ℕ) → i < n .steps → Step-formed (now steps) i) ⌝ }
     ensures { λ r. ⌜ Sheet-wrote (concat-map expr-line (stored-exprs (now (exprs .entry)) (n .exprs))) (concat-map step-line (stored-steps (now (steps .entry)) (n .steps))) (concat-map edge-line (stored-edges (now (ends .entry)) (now (edges .entry)) (n .edges))) (line 84 (t .removed ∷ t .visits ∷ t .looks ∷ [])) (now (out .entry)) (now (out .exit)) r ⌝ }
-    ensures { λ r. ⌜ (r .removed ≡ t .removed) × (r .visits ≡ t .visits) × (r .looks ≡ t .looks) ⌝ }
+    ensures { λ r. ⌜ Figures-told t r ⌝ }
 {
     let a = put_exprs(out, exprs, n.exprs);
     let b = a + put_steps(&mut out[a..], steps, n.steps);

@@ -22,7 +22,7 @@ simplify-projected-exprs-requires : tie.Need-simplify-projected-exprs-requires
 simplify-projected-exprs-requires c κs =
     let p = c .before .before .before .before .before .before .before .before .before .pre in
     let size = c .before .before .before .before .before .before .before .size-2048 .ensures in
-    asks-at-start _ _ (p .0) (omega (arith, size, p .0 .few)) _ _ (c .before .before .before .before .before .before .own-lines .ensures) (c .before .before .before .before .before .none-off .ensures) _ (c .before .before .before .before .expr-order-simplifier .ensures) _ _ _ (p .1 .0) (p .1 .1) (p .1 .2)
+    asks-at-start _ _ (p .0) (omega (arith, size, p .0 .few)) _ _ (c .before .before .before .before .before .before .own-lines .ensures) (c .before .before .before .before .before .none-off .ensures) _ (c .before .before .before .before .expr-order-simplifier .ensures) _ _ _ (p .1 .few) (p .1 .room) (p .1 .falls)
 
 answers-agree-requires : tie.Need-answers-agree-requires
 answers-agree-requires c κs = search needs
@@ -35,7 +35,7 @@ records-agree-requires c κs =
     let few = c .before .before .before .before .before .before .before .before .before .before .before .before .pre .0 .few in
     let started = formed-at-start (now (c .before .before .before .before .before .before .before .before .before .before .before .before .args .recs)) _ few _ _ (c .before .before .before .before .before .before .before .before .before .own-lines .ensures) (c .before .before .before .before .before .before .before .before .none-off .ensures) (c .before .before .before .before .before .before .before .expr-order-simplifier .result) in
     let sized = c .before .before .simplify-projected-exprs .ensures .kept .sized (started .sized) in
-    (few, sized .line, sized .off)
+    record { few = few; line-size = sized .line; off-size = sized .off }
 
 returns-2 : tie.Need-returns-2
 returns-2 c = search needs

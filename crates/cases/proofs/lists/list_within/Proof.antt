@@ -12,7 +12,7 @@ returns c = search needs
 list-agrees-requires : tie.Need-list-agrees-requires
 list-agrees-requires c κs =
     let p = c .before .before .before .before .pre in
-    (p .0, (p .1 .0, p .1 .1, c .before .below .ensures (not-false _ (c .if1 .left))))
+    (p .0, record { few = p .1 .0; room = p .1 .1; falls = c .before .below .ensures (not-false _ (c .if1 .left)) })
 
 returns-2 : tie.Need-returns-2
 returns-2 c = search needs

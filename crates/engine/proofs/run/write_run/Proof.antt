@@ -13,7 +13,7 @@ put-finished-requires : tie.Need-put-finished-requires
 put-finished-requires c κs =
     let p = c .before .before .before .before .before .before .pre in
     let k = c .before .before .before .store-lines .ensures in
-    (p .0, ((p .1 .arena .based .few, p .1 .steps-held .few, p .1 .few), (k .1, p .1 .steps-held .formed)))
+    (p .0, (record { exprs = p .1 .arena .based .few; steps = p .1 .steps-held .few; edges = p .1 .few }, (k .1, p .1 .steps-held .formed)))
 
 same-length : tie.Need-same-length
 same-length c = search needs

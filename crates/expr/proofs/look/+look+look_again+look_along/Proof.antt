@@ -9,7 +9,7 @@ use Rattle.expr.specs.Eos.{Own}
 use Rattle.expr.specs.State.{state}
 use Rattle.expr.specs.Contract.{reach, Reached}
 use Rattle.expr.proofs.States.{kept-owning}
-use Rattle.expr.proofs.Ways.{line-128, line-room, line-formed, count-fits, e-reach, e-readable, gives-hit, child-128, copy-falls, copy-asks, gives-copy, along-asks, again-falls, again-asks, gives-whole, gives-twice, gives-once}
+use Rattle.expr.proofs.Ways.{line-record, count-fits, e-reach, e-readable, gives-hit, child-128, copy-falls, copy-asks, gives-copy, along-asks, again-falls, again-asks, gives-whole, gives-twice, gives-once}
 use Rattle.expr.proofs.Leaves.{leaf-number, gives-leaf}
 use Rattle.expr.proofs.Children.{reached-none, along-gives, child-falls, child-asks, few-seen, reached-more}
 use Prim.Native.Nat.{ℕ, _+_, _*_, _-_, _<_}
@@ -161,37 +161,37 @@ module _ (t : ℕ) where
   look-cast-at : look-lts.Need-cast-at (look-claims t) (look-at t) look.Post
   look-cast-at c =
       let asks = c .before .before .before .pre .1 in
-      search (needs, line-128 _ _ _ _ (asks .based) (asks .formed) (asks .within))
+      search (needs, line-record _ _ _ _ (asks .based) (asks .formed) (asks .within) .few)
 
   look-mul-at : look-lts.Need-mul-at (look-claims t) (look-at t) look.Post
   look-mul-at c =
       let asks = c .before .before .before .pre .1 in
-      search (needs, line-128 _ _ _ _ (asks .based) (asks .formed) (asks .within))
+      search (needs, line-record _ _ _ _ (asks .based) (asks .formed) (asks .within) .few)
 
   look-element-copy-out-kind : look-lts.Need-element-copy-out-kind (look-claims t) (look-at t) look.Post
   look-element-copy-out-kind c =
       let asks = c .before .before .before .pre .1 in
-      omega (arith, line-128 _ _ _ _ (asks .based) (asks .formed) (asks .within))
+      omega (arith, line-record _ _ _ _ (asks .based) (asks .formed) (asks .within) .few)
 
   look-add-if1 : look-lts.Need-add-if1 (look-claims t) (look-at t) look.Post
   look-add-if1 c =
       let asks = c .before .before .before .before .pre .1 in
-      search (needs, line-128 _ _ _ _ (asks .based) (asks .formed) (asks .within))
+      search (needs, line-record _ _ _ _ (asks .based) (asks .formed) (asks .within) .few)
 
   look-element-copy-out-if1 : look-lts.Need-element-copy-out-if1 (look-claims t) (look-at t) look.Post
   look-element-copy-out-if1 c =
       let asks = c .before .before .before .before .pre .1 in
-      omega (arith, line-128 _ _ _ _ (asks .based) (asks .formed) (asks .within))
+      omega (arith, line-record _ _ _ _ (asks .based) (asks .formed) (asks .within) .few)
 
   look-add-leaf : look-lts.Need-add-leaf (look-claims t) (look-at t) look.Post
   look-add-leaf c =
       let asks = c .before .before .before .before .before .before .pre .1 in
-      search (needs, line-128 _ _ _ _ (asks .based) (asks .formed) (asks .within))
+      search (needs, line-record _ _ _ _ (asks .based) (asks .formed) (asks .within) .few)
 
   look-element-copy-out-leaf : look-lts.Need-element-copy-out-leaf (look-claims t) (look-at t) look.Post
   look-element-copy-out-leaf c =
       let asks = c .before .before .before .before .before .before .pre .1 in
-      omega (arith, line-128 _ _ _ _ (asks .based) (asks .formed) (asks .within))
+      omega (arith, line-record _ _ _ _ (asks .based) (asks .formed) (asks .within) .few)
 
   look-leaf-requires : look-lts.Need-leaf-requires (look-claims t) (look-at t) look.Post
   look-leaf-requires c κs =
@@ -223,7 +223,7 @@ module _ (t : ℕ) where
   look-expr-of-requires : look-lts.Need-expr-of-requires (look-claims t) (look-at t) look.Post
   look-expr-of-requires c κs =
       let asks = c .before .before .before .before .before .before .before .before .pre .1 in
-      (line-128 _ _ _ _ (asks .based) (asks .formed) (asks .within), line-room _ _ _ _ (asks .based) (asks .formed) (asks .within), line-formed _ _ _ _ (asks .based) (asks .formed) (asks .within))
+      line-record _ _ _ _ (asks .based) (asks .formed) (asks .within)
 
   look-before-of-requires : look-lts.Need-before-of-requires (look-claims t) (look-at t) look.Post
   look-before-of-requires c κs = tt
@@ -357,7 +357,7 @@ module _ (t : ℕ) where
       let walk = c .before .before .before .before .before .before .before .before .look-along .ensures in
       let again = c .before .before .look-again .ensures in
       let sized = again .kept .sized ((rw counted at walk) .kept .sized (kept-owning _ _ .sized (asks .formed .sized))) in
-      (omega (arith, asks .within, asks .based .few), sized .off, sized .cache)
+      record { within = omega (arith, asks .within, asks .based .few); off-size = sized .off; cache-size = sized .cache }
 
   look-returns-4 : look-lts.Need-returns-4 (look-claims t) (look-at t) look.Post
   look-returns-4 c =

@@ -47,7 +47,7 @@ returns c =
     let s0 = c .before .before .before .before .before .before .before .before .before .before in
     let a = s0 .args in
     let owned = c .with-field .ensures ∙ ap (own.with-field (a .field)) (c .before .with-observed .ensures) in
-    λ line. ended (state line (a .off .now) (a .cache .now) (a .s)) (a .p) (a .e) (a .v) (a .field) (a .first) (s0 .pre .0) (s0 .pre .1) (s0 .pre .2) _ _ _ _ _ _ _ (c .before .before .before .before .before .loses-order .ensures) (c .before .before .before .before .before .before .before .observed .ensures) (c .before .before .before .before .before .before .union .ensures) (c .before .before .before .before .answer .ensures) (c .before .before .before .packed .ensures) (c .before .before .pick-byte .ensures) owned
+    λ line. ended (state line (a .off .now) (a .cache .now) (a .s)) (a .p) (a .e) (a .v) (a .field) (a .first) (s0 .pre .within) (s0 .pre .off-size) (s0 .pre .cache-size) _ _ _ _ _ _ _ (c .before .before .before .before .before .loses-order .ensures) (c .before .before .before .before .before .before .before .observed .ensures) (c .before .before .before .before .before .before .union .ensures) (c .before .before .before .before .answer .ensures) (c .before .before .before .packed .ensures) (c .before .before .pick-byte .ensures) owned
 
 pub look-ended-spec : {M : Type 1} → statement M
 look-ended-spec =

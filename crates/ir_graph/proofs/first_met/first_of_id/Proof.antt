@@ -34,7 +34,7 @@ cast-one-id c =
 one-id-requires : tie.Need-one-id-requires Inv-loop μ-loop
 one-id-requires c κs =
     let s = c .before .before .before .before in
-    (s .pre .0 .0, s .pre .1 .1 (c .before .before .loop .k) (c .before .loop-test .taken), s .pre .0 .1)
+    record { few = s .pre .0 .0; one = s .pre .1 .1 (c .before .before .loop .k) (c .before .loop-test .taken); other = s .pre .0 .1 }
 
 returns : tie.Need-returns Inv-loop μ-loop
 returns c =

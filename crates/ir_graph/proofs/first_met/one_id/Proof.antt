@@ -12,7 +12,7 @@ is-cache-requires c κs = search needs
 returns : tie.Need-returns
 returns c =
     let s = c .before .before in
-    other-kind (now (s .args .steps)) (s .args .n) (s .args .k) (s .args .m) (s .pre .1) (s .pre .2)
+    other-kind (now (s .args .steps)) (s .args .n) (s .args .k) (s .args .m) (s .pre .one) (s .pre .other)
     (sym (c .before .is-cache .ensures) ∙ not-true (c .before .is-cache .result) (c .if1 .taken))
 
 is-cache-requires-2 : tie.Need-is-cache-requires-2
@@ -23,7 +23,7 @@ returns-2 c =
     let s = c .before .before .before .before in
     let i = c .before .before .before .is-cache in
     let j = c .before .is-cache2 in
-    other-second (now (s .args .steps)) (s .args .n) (s .args .k) (s .args .m) (s .pre .1) (s .pre .2)
+    other-second (now (s .args .steps)) (s .args .n) (s .args .k) (s .args .m) (s .pre .one) (s .pre .other)
     (sym (i .ensures) ∙ not-false (i .result) (c .before .before .if1 .left)) (sym (j .ensures) ∙ not-true (j .result) (c .if2 .taken))
 
 cache-id-requires : tie.Need-cache-id-requires
@@ -37,7 +37,7 @@ returns-3 c =
     let s = c .before .before .before .before .before .before in
     let i = c .before .before .before .before .before .is-cache in
     let j = c .before .before .before .is-cache2 in
-    by-id (now (s .args .steps)) (s .args .n) (s .args .k) (s .args .m) (s .pre .1) (s .pre .2)
+    by-id (now (s .args .steps)) (s .args .n) (s .args .k) (s .args .m) (s .pre .one) (s .pre .other)
     (sym (i .ensures) ∙ not-false (i .result) (c .before .before .before .before .if1 .left)) (sym (j .ensures) ∙ not-false (j .result) (c .before .before .if2 .left))
     (c .before .cache-id .ensures) (c .cache-id2 .ensures)
 

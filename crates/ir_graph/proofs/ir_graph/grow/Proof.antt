@@ -66,7 +66,11 @@ link-requires c κs =
     let t = turn-in r in
     let f = c .before .before .before .follow .ensures in
     let s = r .before .before .before .before .before .before .before .before in (
-      omega (arith, f .0 .len, t .few, t .places),
+      record {
+        order = omega (arith, f .0 .len);
+        few = omega (arith, f .0 .len, t .few);
+        within = omega (arith, f .0 .len, t .few, t .places);
+      },
       (
         omega (arith, f .0 .len, t .edges),
         pushed-there (now (s .args .steps)) (s .args .n) (s .pre .0) (s .pre .1 .0) (s .pre .1 .1 .0) (r .before .loop .inv) (r .loop-test .taken) (f .0) (f .1),

@@ -46,7 +46,7 @@ first-input-requires : tie.Need-first-input-requires
 first-input-requires c κs =
     let p = c .before .before .before .before .before .pre .0 in
     let l = lines (c .before) in
-    (p .0, omega (arith, l .0, p .1), omega (arith, l .1, l .2))
+    record { held = p .0; here = omega (arith, l .0, p .1); some = omega (arith, l .1, l .2) }
 
 store-input-requires : tie.Need-store-input-requires
 store-input-requires c κs =

@@ -25,7 +25,7 @@ loop-holds : tie.Need-loop-holds Inv-loop μ-loop
 loop-holds c =
     let s = c .before in
     let e = c .first-into .ensures in
-    (e, rw e (through-none (now (s .args .ends)) (s .args .len) (s .args .n) (s .pre .2)))
+    (e, rw e (through-none (now (s .args .ends)) (s .args .len) (s .args .n) (s .pre .1)))
 
 consumer-of-requires : tie.Need-consumer-of-requires Inv-loop μ-loop
 consumer-of-requires c κs = search needs
@@ -35,7 +35,7 @@ unfolding stored-edge
 returns c =
     let s = c .before .before .before .before .before in
     let l = c .before .before .before .loop in
-    rw (l .inv .0) (ends-here (now (s .args .ends)) (s .args .len) (s .args .n) (s .pre .2) (l .to) (l .inv .1) (rw (c .before .consumer-of .ensures []) at (c .if1 .taken)))
+    rw (l .inv .0) (ends-here (now (s .args .ends)) (s .args .len) (s .args .n) (s .pre .1) (l .to) (l .inv .1) (rw (c .before .consumer-of .ensures []) at (c .if1 .taken)))
 
 add-to : tie.Need-add-to Inv-loop μ-loop
 add-to c = search needs
@@ -48,13 +48,13 @@ unfolding stored-edge
 loop-again c =
     let s = c .before .before .before .before .before in
     let l = c .before .before .before .loop in
-    (l .inv .0, through-next (now (s .args .ends)) (s .args .len) (s .args .n) (s .pre .2) (l .to) (c .before .before .loop-test .taken) (sym (c .before .consumer-of .ensures []) ∙ c .if1 .left) (l .inv .1))
+    (l .inv .0, through-next (now (s .args .ends)) (s .args .len) (s .args .n) (s .pre .1) (l .to) (c .before .before .loop-test .taken) (sym (c .before .consumer-of .ensures []) ∙ c .if1 .left) (l .inv .1))
 
 returns-2 : tie.Need-returns-2 Inv-loop μ-loop
 returns-2 c =
     let s = c .before .before .before in
     let l = c .before .loop in
-    rw (l .inv .0) (ends-last (now (s .args .ends)) (s .args .len) (s .args .n) (s .pre .2) (l .to) (l .inv .1) (c .loop-test .left))
+    rw (l .inv .0) (ends-last (now (s .args .ends)) (s .args .len) (s .args .n) (s .pre .1) (l .to) (l .inv .1) (c .loop-test .left))
 
 pub in-edges-of-spec : {M : Type 1} → statement M
 in-edges-of-spec =

@@ -21,7 +21,7 @@ returns c =
     let a = s .args in
     let ins = c .before .before .loosen-in .ensures in
     let outs = c .loosen-out .ensures in (
-      outs .0 (now (a .ends)) ∙ ap (map (loosened (a .n) (outs-of (a .l .out)))) (ins .0 (a .len) (a .n) (s .pre .0) (s .pre .3)) ∙ both-loosened (a .n) (a .l) (stored-edges (now (a .ends)) (now (a .edges)) (a .len)),
+      outs .0 (now (a .ends)) ∙ ap (map (loosened (a .n) (outs-of (a .l .out)))) (ins .0 (a .len) (a .n) (s .pre .0 .0 .few) (s .pre .1)) ∙ both-loosened (a .n) (a .l) (stored-edges (now (a .ends)) (now (a .edges)) (a .len)),
       outs .1,
     )
 

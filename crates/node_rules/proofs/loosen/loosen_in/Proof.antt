@@ -23,12 +23,12 @@ returns : tie.Need-returns Inv-loop μ-loop
 returns c =
     let s = c .before .before in
     let (a, b) = neither (s .args .l) (c .if1 .taken) in
-    ((λ len n few run. none-loosened n (ins-of (s .args .l)) a b refl _), s .pre .2)
+    ((λ len n few run. none-loosened n (ins-of (s .args .l)) a b refl _), s .pre .1)
 
 loop-holds : tie.Need-loop-holds Inv-loop μ-loop
 loop-holds c =
     let s = c .before .before in
-    (omega arith, omega arith, s .pre .2, none-changed _ (now (s .args .ends)) (now (s .args .edges)) (s .args .d .from))
+    (omega arith, omega arith, s .pre .1, none-changed _ (now (s .args .ends)) (now (s .args .edges)) (s .args .d .from))
 
 slot-of-requires : tie.Need-slot-of-requires Inv-loop μ-loop
 slot-of-requires c κs = search needs

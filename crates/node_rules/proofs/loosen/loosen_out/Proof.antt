@@ -23,12 +23,12 @@ abbrev μ-loop : tie.MeasureT-loop
 returns : tie.Need-returns Inv-loop μ-loop
 returns c =
     let s = c .before in
-    ((λ ends. none-loosened (s .args .n) (outs-of (s .args .out)) refl refl (not-true (s .args .out) (c .if1 .taken)) _), s .pre .2)
+    ((λ ends. none-loosened (s .args .n) (outs-of (s .args .out)) refl refl (not-true (s .args .out) (c .if1 .taken)) _), s .pre .1)
 
 loop-holds : tie.Need-loop-holds Inv-loop μ-loop
 loop-holds c =
     let s = c .before in
-    (omega arith, s .pre .2, λ ends. none-changed _ ends (now (s .args .edges)) 0)
+    (omega arith, s .pre .1, λ ends. none-changed _ ends (now (s .args .edges)) 0)
 
 is-out-of-requires : tie.Need-is-out-of-requires Inv-loop μ-loop
 is-out-of-requires c κs = search needs
@@ -57,7 +57,7 @@ returns-2 c =
     let s = c .before .before .before in
     let a = s .args in
     let l = c .before .loop in (
-      (λ ends. rw (not-false (a .out) (c .before .before .if1 .left)) (all-changed ends (now (a .edges)) (l .edges) (a .len) (s .pre .0) _ (l .k) (c .loop-test .left) (l .inv .2 ends))),
+      (λ ends. rw (not-false (a .out) (c .before .before .if1 .left)) (all-changed ends (now (a .edges)) (l .edges) (a .len) (s .pre .0 .few) _ (l .k) (c .loop-test .left) (l .inv .2 ends))),
       l .inv .1,
     )
 

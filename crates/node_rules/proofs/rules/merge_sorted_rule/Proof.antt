@@ -3,20 +3,16 @@ use borrow.Author.Needs.{needs}
 use Rattle.node_rules.proofs.rules.merge_sorted_rule.Statement.{statement}
 use Rattle.node_rules.proofs.rules.merge_sorted_rule.Tie as tie
 
--- src/rules.rt:157:9
 ruled-requires : tie.Need-ruled-requires
 ruled-requires c κs = search needs
 
--- src/rules.rt:157:9
 returns : tie.Need-returns
 unfolding arm
 returns c = rw (c .ruled .ensures, c .before .if1 .taken, arm)
 
--- src/rules.rt:159:5
 ruled-requires-2 : tie.Need-ruled-requires-2
 ruled-requires-2 c κs = search needs
 
--- src/rules.rt:146:1
 returns-2 : tie.Need-returns-2
 unfolding arm
 returns-2 c = rw (c .ruled2 .ensures, c .before .if1 .left, arm)

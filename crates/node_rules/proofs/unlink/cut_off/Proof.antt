@@ -16,7 +16,7 @@ abbrev μ-loop : tie.MeasureT-loop
 μ-loop edges₀ d k₀ edges k = d .to - k
 
 loop-holds : tie.Need-loop-holds Inv-loop μ-loop
-loop-holds c = (omega arith, omega arith, c .pre .2, λ ends. none-changed _ ends (now (c .args .edges)) (c .args .d .from))
+loop-holds c = (omega arith, omega arith, c .pre .1, λ ends. none-changed _ ends (now (c .args .edges)) (c .args .d .from))
 
 produce-if-requires : tie.Need-produce-if-requires Inv-loop μ-loop
 produce-if-requires c κs = search needs

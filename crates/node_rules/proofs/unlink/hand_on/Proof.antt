@@ -18,7 +18,7 @@ abbrev μ-loop : tie.MeasureT-loop
 μ-loop edges₀ len n from k₀ edges k = len - k
 
 loop-holds : tie.Need-loop-holds Inv-loop μ-loop
-loop-holds c = (omega arith, c .pre .2, λ ends. none-changed _ ends (now (c .args .edges)) 0)
+loop-holds c = (omega arith, c .pre .1, λ ends. none-changed _ ends (now (c .args .edges)) 0)
 
 is-out-of-requires : tie.Need-is-out-of-requires Inv-loop μ-loop
 is-out-of-requires c κs = search needs
@@ -46,7 +46,7 @@ returns : tie.Need-returns Inv-loop μ-loop
 returns c =
     let s = c .before .before in
     let l = c .before .loop in
-    ((λ ends. all-changed ends (now (s .args .edges)) (l .edges) (s .args .len) (s .pre .0) _ (l .k) (c .loop-test .left) (l .inv .2 ends)), l .inv .1)
+    ((λ ends. all-changed ends (now (s .args .edges)) (l .edges) (s .args .len) (s .pre .0 .few) _ (l .k) (c .loop-test .left) (l .inv .2 ends)), l .inv .1)
 
 pub hand-on-spec : {M : Type 1} → statement M
 hand-on-spec =

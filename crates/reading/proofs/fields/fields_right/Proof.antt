@@ -11,7 +11,10 @@ fields-marked-requires : tie.Need-fields-marked-requires
 fields-marked-requires c κs = search needs
 
 returns : tie.Need-returns
-returns c = fields-are (c .before .before .before .before .args .exprs .now) (c .before .before .before .before .args .n) (c .before .before .before .before .pre .1) (c .fields-marked .ensures _ (c .before .before .mark-lines .ensures none-counted))
+returns c =
+    let s = c .before .before .before .before in
+    let a = s .args in
+    fields-are (a .exprs .now) (a .n) (s .pre .1) (c .fields-marked .ensures _ (c .before .before .mark-lines .ensures none-counted))
 
 pub fields-right-spec : {M : Type 1} → statement M
 fields-right-spec = tie.close (tie.spec mark-lines-requires fields-marked-requires returns)

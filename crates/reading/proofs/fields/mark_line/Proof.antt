@@ -29,7 +29,10 @@ count-all-requires : tie.Need-count-all-requires
 count-all-requires c κs = search needs
 
 returns : tie.Need-returns
-returns c = mark-children (c .before .before .before .before .before .before .before .args .exprs .now) (c .before .before .before .before .before .before .before .args .marks .now) (c .before .before .before .before .before .before .before .args .i) (omega arith) _ _ (c .before .before .before .before .before .wide .ensures .0) (omega arith) (c .count-all .ensures)
+returns c =
+    let s = c .before .before .before .before .before .before .before in
+    let a = s .args in
+    mark-children (a .exprs .now) (a .marks .now) (a .i) (omega arith) _ _ (c .before .before .before .before .before .wide .ensures .0) (omega arith) (c .count-all .ensures)
 
 mul-if2 : tie.Need-mul-if2
 mul-if2 c = search needs
@@ -38,10 +41,16 @@ element-copy-out-if2 : tie.Need-element-copy-out-if2
 element-copy-out-if2 c = search needs
 
 returns-2 : tie.Need-returns-2
-returns-2 c = mark-other (c .before .before .before .before .before .before .args .exprs .now) (c .before .before .before .before .before .before .args .marks .now) (c .before .before .before .before .before .before .args .i) (omega arith) (omega arith) (c .if2 .taken)
+returns-2 c =
+    let s = c .before .before .before .before .before .before in
+    let a = s .args in
+    mark-other (a .exprs .now) (a .marks .now) (a .i) (omega arith) (omega arith) (c .if2 .taken)
 
 returns-3 : tie.Need-returns-3
-returns-3 c = mark-none (c .before .before .before .before .before .before .before .args .exprs .now) (c .before .before .before .before .before .before .before .args .marks .now) (c .before .before .before .before .before .before .before .args .i) (omega arith) _ (c .before .before .before .before .before .wide .ensures .0) (omega arith) (omega arith) (omega arith)
+returns-3 c =
+    let s = c .before .before .before .before .before .before .before in
+    let a = s .args in
+    mark-none (a .exprs .now) (a .marks .now) (a .i) (omega arith) _ (c .before .before .before .before .before .wide .ensures .0) (omega arith) (omega arith) (omega arith)
 
 mul-count-all-2 : tie.Need-mul-count-all-2
 mul-count-all-2 c = search needs
@@ -56,7 +65,10 @@ count-all-requires-2 : tie.Need-count-all-requires-2
 count-all-requires-2 c κs = search needs
 
 returns-4 : tie.Need-returns-4
-returns-4 c = mark-evaluation (c .before .before .before .before .before .before .before .before .before .before .args .exprs .now) (c .before .before .before .before .before .before .before .before .before .before .args .marks .now) (c .before .before .before .before .before .before .before .before .before .before .args .i) (omega arith) _ _ (c .before .before .before .before .before .before .before .before .wide .ensures .0) (omega arith) (omega arith) (c .before .before .before .if3 .left) (c .count-all2 .ensures)
+returns-4 c =
+    let s = c .before .before .before .before .before .before .before .before .before .before in
+    let a = s .args in
+    mark-evaluation (a .exprs .now) (a .marks .now) (a .i) (omega arith) _ _ (c .before .before .before .before .before .before .before .before .wide .ensures .0) (omega arith) (omega arith) (c .before .before .before .if3 .left) (c .count-all2 .ensures)
 
 pub mark-line-spec : {M : Type 1} → statement M
 mark-line-spec =

@@ -33,7 +33,10 @@ loop-again : tie.Need-loop-again Inv-loop μ-loop
 loop-again c = (omega arith, λ z. more-marks _ _ _ _ _ (c .before .before .before .loop .inv .1 z) (c .mark-line .ensures))
 
 returns : tie.Need-returns Inv-loop μ-loop
-returns c = λ z. subst (λ k. Counted (c .before .loop .marks) (markings (c .before .before .args .exprs .now) (c .before .before .args .n) k)) (let e : c .before .loop .k ≡ c .before .before .args .n = omega arith in e) (c .before .loop .inv .1 z)
+returns c =
+    let s = c .before .before in
+    let a = s .args in
+    λ z. subst (λ k. Counted (c .before .loop .marks) (markings (a .exprs .now) (a .n) k)) (let e : c .before .loop .k ≡ a .n = omega arith in e) (c .before .loop .inv .1 z)
 
 pub mark-lines-spec : {M : Type 1} → statement M
 mark-lines-spec =

@@ -21,8 +21,11 @@ read-expr-requires : tie.Need-read-expr-requires
 read-expr-requires c κs = search needs
 
 returns : tie.Need-returns
-returns c = lettered-read (c .before .before .before .before .before .before .args .s .now) (c .before .before .before .before .before .before .args .exprs .now) (c .before .before .before .before .before .before .args .steps .now) (c .read-expr .last .1 .0) (c .before .before .before .before .before .before .args .steps .now) (c .before .before .before .before .before .before .args .t) (c .read-expr .result)
-    (omega arith) 69 refl refl (omega arith) (c .read-expr .ensures (c .before .before .before .before .before .before .args .steps .now) (c .before .before .before .before .before .before .pre .1))
+returns c =
+    let s = c .before .before .before .before .before .before in
+    let a = s .args in
+    lettered-read (a .s .now) (a .exprs .now) (a .steps .now) (c .read-expr .last .1 .0) (a .steps .now) (a .t) (c .read-expr .result)
+    (omega arith) 69 refl refl (omega arith) (c .read-expr .ensures (a .steps .now) (s .pre .1))
 
 sub-read-step : tie.Need-sub-read-step
 sub-read-step c = search needs
@@ -37,8 +40,11 @@ read-step-requires : tie.Need-read-step-requires
 read-step-requires c κs = search needs
 
 returns-2 : tie.Need-returns-2
-returns-2 c = lettered-read (c .before .before .before .before .before .before .before .args .s .now) (c .before .before .before .before .before .before .before .args .exprs .now) (c .before .before .before .before .before .before .before .args .steps .now) (c .before .before .before .before .before .before .before .args .exprs .now) (c .read-step .last .1 .0) (c .before .before .before .before .before .before .before .args .t) (c .read-step .result)
-    (omega arith) 80 refl refl (omega arith) (c .read-step .ensures (c .before .before .before .before .before .before .before .args .exprs .now) (c .before .before .before .before .before .before .before .pre .1))
+returns-2 c =
+    let s = c .before .before .before .before .before .before .before in
+    let a = s .args in
+    lettered-read (a .s .now) (a .exprs .now) (a .steps .now) (a .exprs .now) (c .read-step .last .1 .0) (a .t) (c .read-step .result)
+    (omega arith) 80 refl refl (omega arith) (c .read-step .ensures (a .exprs .now) (s .pre .1))
 
 returns-3 : tie.Need-returns-3
 returns-3 c = unlettered _ _ (omega arith) (omega arith) (omega arith)

@@ -14,16 +14,16 @@ add-t9 : tie.Need-add-t9
 add-t9 c = search needs
 
 returns : tie.Need-returns
-returns c = two-digits _ _ (c .before .before .before .pre .0 .0) _ (c .before .before .before .pre .0 .1) (omega arith) (omega arith) (omega arith) _ (c .before .digit-at .ensures .0) (omega arith)
+returns c = two-digits _ _ (c .before .before .before .pre .first) _ (c .before .before .before .pre .second) (omega arith) (omega arith) (omega arith) _ (c .before .digit-at .ensures .0) (omega arith)
 
 returns-2 : tie.Need-returns-2
-returns-2 c = no-third _ _ (c .before .before .before .before .pre .0 .0) _ (c .before .before .before .before .pre .0 .1) (omega arith) (omega arith) (omega arith) _ (c .before .before .digit-at .ensures .0) (omega arith)
+returns-2 c = no-third _ _ (c .before .before .before .before .pre .first) _ (c .before .before .before .before .pre .second) (omega arith) (omega arith) (omega arith) _ (c .before .before .digit-at .ensures .0) (omega arith)
 
 digit-at-requires-2 : tie.Need-digit-at-requires-2
 digit-at-requires-2 c κs = search needs
 
 returns-3 : tie.Need-returns-3
-returns-3 c = too-long _ _ (c .before .before .before .before .before .before .pre .0 .0) _ (c .before .before .before .before .before .before .pre .0 .1) (omega arith) (omega arith) (omega arith) _ (c .before .before .before .before .digit-at .ensures .0) (omega arith) _ (c .before .digit-at2 .ensures .0) (λ e. omega arith)
+returns-3 c = too-long _ _ (c .before .before .before .before .before .before .pre .first) _ (c .before .before .before .before .before .before .pre .second) (omega arith) (omega arith) (omega arith) _ (c .before .before .before .before .digit-at .ensures .0) (omega arith) _ (c .before .digit-at2 .ensures .0) (λ e. omega arith)
 
 wide-requires : tie.Need-wide-requires
 wide-requires c κs = search needs
@@ -47,13 +47,13 @@ add-n-2 : tie.Need-add-n-2
 add-n-2 c = search needs
 
 returns-4 : tie.Need-returns-4
-returns-4 c = too-large _ _ (c .before .before .before .before .before .before .before .before .before .before .pre .0 .0) _ (c .before .before .before .before .before .before .before .before .before .before .pre .0 .1) (omega arith) (omega arith) (omega arith) _ (c .before .before .before .before .before .before .before .before .digit-at .ensures .0) (omega arith) _ (c .before .before .before .before .before .digit-at2 .ensures .0) (omega arith) (omega arith)
+returns-4 c = too-large _ _ (c .before .before .before .before .before .before .before .before .before .before .pre .first) _ (c .before .before .before .before .before .before .before .before .before .before .pre .second) (omega arith) (omega arith) (omega arith) _ (c .before .before .before .before .before .before .before .before .digit-at .ensures .0) (omega arith) _ (c .before .before .before .before .before .digit-at2 .ensures .0) (omega arith) (omega arith)
 
 cast-t16 : tie.Need-cast-t16
 cast-t16 c = search needs
 
 returns-5 : tie.Need-returns-5
-returns-5 c = three-digits _ _ (c .before .before .before .before .before .before .before .before .before .before .pre .0 .0) _ (c .before .before .before .before .before .before .before .before .before .before .pre .0 .1) (omega arith) (omega arith) (omega arith) _ (c .before .before .before .before .before .before .before .before .digit-at .ensures .0) (omega arith) _ (c .before .before .before .before .before .digit-at2 .ensures .0) _ (omega arith) (omega arith) (omega arith)
+returns-5 c = three-digits _ _ (c .before .before .before .before .before .before .before .before .before .before .pre .first) _ (c .before .before .before .before .before .before .before .before .before .before .pre .second) (omega arith) (omega arith) (omega arith) _ (c .before .before .before .before .before .before .before .before .digit-at .ensures .0) (omega arith) _ (c .before .before .before .before .before .digit-at2 .ensures .0) _ (omega arith) (omega arith) (omega arith)
 
 pub read-long-spec : {M : Type 1} → statement M
 read-long-spec =

@@ -17,7 +17,10 @@ abbrev μ-loop : tie.MeasureT-loop
 μ-loop steps at n i j₀ j = n - j
 
 loop-holds : tie.Need-loop-holds Inv-loop μ-loop
-loop-holds c = (omega arith, ap (all? (before-no-sink (c .before .args .steps .now) (c .before .args .i))) (all-left (c .before .args .steps .now) (c .before .args .at) (c .before .args .n)))
+loop-holds c =
+    let s = c .before in
+    let a = s .args in
+    (omega arith, ap (all? (before-no-sink (a .steps .now) (a .i))) (all-left (a .steps .now) (a .at) (a .n)))
 
 add-wide : tie.Need-add-wide Inv-loop μ-loop
 add-wide c = omega arith
@@ -29,7 +32,10 @@ wide-requires : tie.Need-wide-requires Inv-loop μ-loop
 wide-requires c κs = search needs
 
 returns : tie.Need-returns Inv-loop μ-loop
-returns c = number-fails (before-no-sink (c .before .before .before .before .before .before .args .steps .now) (c .before .before .before .before .before .before .args .i)) (c .before .before .before .before .before .before .args .steps .now) (c .before .before .before .before .before .before .args .at) (c .before .before .before .before .before .before .args .n) (c .before .before .before .before .loop .j) (omega arith) (omega arith) (c .before .before .before .before .loop .inv .1) (not-before (c .before .before .before .before .before .before .args .steps .now) (c .before .before .before .before .before .before .args .i) _ (rw (c .before .wide .ensures .0) at (c .if1 .taken)))
+returns c =
+    let s = c .before .before .before .before .before .before in
+    let a = s .args in
+    number-fails (before-no-sink (a .steps .now) (a .i)) (a .steps .now) (a .at) (a .n) (c .before .before .before .before .loop .j) (omega arith) (omega arith) (c .before .before .before .before .loop .inv .1) (not-before (a .steps .now) (a .i) _ (rw (c .before .wide .ensures .0) at (c .if1 .taken)))
 
 mul-if2 : tie.Need-mul-if2 Inv-loop μ-loop
 mul-if2 c = omega arith
@@ -38,7 +44,10 @@ shared-slice-read-if2 : tie.Need-shared-slice-read-if2 Inv-loop μ-loop
 shared-slice-read-if2 c = omega arith
 
 returns-2 : tie.Need-returns-2 Inv-loop μ-loop
-returns-2 c = number-fails (before-no-sink (c .before .before .before .before .before .before .before .before .args .steps .now) (c .before .before .before .before .before .before .before .before .args .i)) (c .before .before .before .before .before .before .before .before .args .steps .now) (c .before .before .before .before .before .before .before .before .args .at) (c .before .before .before .before .before .before .before .before .args .n) (c .before .before .before .before .before .before .loop .j) (omega arith) (omega arith) (c .before .before .before .before .before .before .loop .inv .1) (a-sink (c .before .before .before .before .before .before .before .before .args .steps .now) (c .before .before .before .before .before .before .before .before .args .i) _ (rw (c .before .before .before .wide .ensures .0) at (c .before .before .if1 .left)) (rw (c .before .before .before .wide .ensures .0) at (c .if2 .taken)))
+returns-2 c =
+    let s = c .before .before .before .before .before .before .before .before in
+    let args = s .args in
+    number-fails (before-no-sink (args .steps .now) (args .i)) (args .steps .now) (args .at) (args .n) (c .before .before .before .before .before .before .loop .j) (omega arith) (omega arith) (c .before .before .before .before .before .before .loop .inv .1) (a-sink (args .steps .now) (args .i) _ (rw (c .before .before .before .wide .ensures .0) at (c .before .before .if1 .left)) (rw (c .before .before .before .wide .ensures .0) at (c .if2 .taken)))
 
 add-j : tie.Need-add-j Inv-loop μ-loop
 add-j c = omega arith
@@ -47,10 +56,16 @@ loop-less : tie.Need-loop-less Inv-loop μ-loop
 loop-less c = omega arith
 
 loop-again : tie.Need-loop-again Inv-loop μ-loop
-loop-again c = (omega arith, number-passes (before-no-sink (c .before .before .before .before .before .before .before .before .args .steps .now) (c .before .before .before .before .before .before .before .before .args .i)) (c .before .before .before .before .before .before .before .before .args .steps .now) (c .before .before .before .before .before .before .before .before .args .at) (c .before .before .before .before .before .before .before .before .args .n) (c .before .before .before .before .before .before .loop .j) (omega arith) (omega arith) (c .before .before .before .before .before .before .loop .inv .1) (no-sink (c .before .before .before .before .before .before .before .before .args .steps .now) (c .before .before .before .before .before .before .before .before .args .i) _ (rw (c .before .before .before .wide .ensures .0) at (c .before .before .if1 .left)) (rw (c .before .before .before .wide .ensures .0) at (c .if2 .left))))
+loop-again c =
+    let s = c .before .before .before .before .before .before .before .before in
+    let a = s .args in
+    (omega arith, number-passes (before-no-sink (a .steps .now) (a .i)) (a .steps .now) (a .at) (a .n) (c .before .before .before .before .before .before .loop .j) (omega arith) (omega arith) (c .before .before .before .before .before .before .loop .inv .1) (no-sink (a .steps .now) (a .i) _ (rw (c .before .before .before .wide .ensures .0) at (c .before .before .if1 .left)) (rw (c .before .before .before .wide .ensures .0) at (c .if2 .left))))
 
 returns-3 : tie.Need-returns-3 Inv-loop μ-loop
-returns-3 c = numbers-pass (before-no-sink (c .before .before .before .args .steps .now) (c .before .before .before .args .i)) (c .before .before .before .args .steps .now) (c .before .before .before .args .at) (c .before .before .before .args .n) (c .before .loop .j) (omega arith) (c .before .loop .inv .1)
+returns-3 c =
+    let s = c .before .before .before in
+    let a = s .args in
+    numbers-pass (before-no-sink (a .steps .now) (a .i)) (a .steps .now) (a .at) (a .n) (c .before .loop .j) (omega arith) (c .before .loop .inv .1)
 
 pub all-before-spec : {M : Type 1} → statement M
 all-before-spec =

@@ -17,7 +17,10 @@ abbrev μ-loop : tie.MeasureT-loop
 μ-loop bytes at n limit j₀ j = n - j
 
 loop-holds : tie.Need-loop-holds Inv-loop μ-loop
-loop-holds c = (omega arith, ap (all? (λ q. ltb q (c .before .args .limit))) (all-left (c .before .args .bytes .now) (c .before .args .at) (c .before .args .n)))
+loop-holds c =
+    let s = c .before in
+    let a = s .args in
+    (omega arith, ap (all? (λ q. ltb q (a .limit))) (all-left (a .bytes .now) (a .at) (a .n)))
 
 add-wide : tie.Need-add-wide Inv-loop μ-loop
 add-wide c = omega arith
@@ -29,7 +32,10 @@ wide-requires : tie.Need-wide-requires Inv-loop μ-loop
 wide-requires c κs = search needs
 
 returns : tie.Need-returns Inv-loop μ-loop
-returns c = number-fails (λ q. ltb q (c .before .before .before .before .before .before .args .limit)) (c .before .before .before .before .before .before .args .bytes .now) (c .before .before .before .before .before .before .args .at) (c .before .before .before .before .before .before .args .n) (c .before .before .before .before .loop .j) (omega arith) (omega arith) (c .before .before .before .before .loop .inv .1) (le-ltb (getD (c .before .before .before .before .before .before .args .bytes .now) (c .before .before .before .before .before .before .args .at + c .before .before .before .before .loop .j) 0) (c .before .before .before .before .before .before .args .limit) (omega arith))
+returns c =
+    let s = c .before .before .before .before .before .before in
+    let a = s .args in
+    number-fails (λ q. ltb q (a .limit)) (a .bytes .now) (a .at) (a .n) (c .before .before .before .before .loop .j) (omega arith) (omega arith) (c .before .before .before .before .loop .inv .1) (le-ltb (getD (a .bytes .now) (a .at + c .before .before .before .before .loop .j) 0) (a .limit) (omega arith))
 
 add-j : tie.Need-add-j Inv-loop μ-loop
 add-j c = omega arith
@@ -38,10 +44,16 @@ loop-less : tie.Need-loop-less Inv-loop μ-loop
 loop-less c = omega arith
 
 loop-again : tie.Need-loop-again Inv-loop μ-loop
-loop-again c = (omega arith, number-passes (λ q. ltb q (c .before .before .before .before .before .before .args .limit)) (c .before .before .before .before .before .before .args .bytes .now) (c .before .before .before .before .before .before .args .at) (c .before .before .before .before .before .before .args .n) (c .before .before .before .before .loop .j) (omega arith) (omega arith) (c .before .before .before .before .loop .inv .1) (lt-ltb (getD (c .before .before .before .before .before .before .args .bytes .now) (c .before .before .before .before .before .before .args .at + c .before .before .before .before .loop .j) 0) (c .before .before .before .before .before .before .args .limit) (omega arith)))
+loop-again c =
+    let s = c .before .before .before .before .before .before in
+    let a = s .args in
+    (omega arith, number-passes (λ q. ltb q (a .limit)) (a .bytes .now) (a .at) (a .n) (c .before .before .before .before .loop .j) (omega arith) (omega arith) (c .before .before .before .before .loop .inv .1) (lt-ltb (getD (a .bytes .now) (a .at + c .before .before .before .before .loop .j) 0) (a .limit) (omega arith)))
 
 returns-2 : tie.Need-returns-2 Inv-loop μ-loop
-returns-2 c = numbers-pass (λ q. ltb q (c .before .before .before .args .limit)) (c .before .before .before .args .bytes .now) (c .before .before .before .args .at) (c .before .before .before .args .n) (c .before .loop .j) (omega arith) (c .before .loop .inv .1)
+returns-2 c =
+    let s = c .before .before .before in
+    let a = s .args in
+    numbers-pass (λ q. ltb q (a .limit)) (a .bytes .now) (a .at) (a .n) (c .before .loop .j) (omega arith) (c .before .loop .inv .1)
 
 pub all-below-spec : {M : Type 1} → statement M
 all-below-spec =

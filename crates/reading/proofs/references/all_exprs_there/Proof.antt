@@ -24,7 +24,10 @@ exprs-there-requires : tie.Need-exprs-there-requires Inv-loop μ-loop
 exprs-there-requires c κs = (let h = c .before .before .pre in record { few = omega (arith, h .few); formed = h .formed _ (c .loop-test .taken) })
 
 returns : tie.Need-returns Inv-loop μ-loop
-returns c = line-fails (λ (i, s). all? (λ q. ltb q (c .before .before .before .before .args .count)) (both s)) (stored-step (c .before .before .before .before .args .steps .now)) (c .before .before .before .before .args .n) _ (c .before .before .loop-test .taken) (sym (c .before .exprs-there .ensures) ∙ not-true _ (c .if1 .taken)) (c .before .before .before .loop .inv .1)
+returns c =
+    let start = c .before .before .before .before in
+    let a = start .args in
+    line-fails (λ (i, s). all? (λ q. ltb q (a .count)) (both s)) (stored-step (a .steps .now)) (a .n) _ (c .before .before .loop-test .taken) (sym (c .before .exprs-there .ensures) ∙ not-true _ (c .if1 .taken)) (c .before .before .before .loop .inv .1)
 
 add-i : tie.Need-add-i Inv-loop μ-loop
 add-i c = omega (arith, c .before .before .before .before .pre .few)
@@ -33,7 +36,10 @@ loop-less : tie.Need-loop-less Inv-loop μ-loop
 loop-less c = omega arith
 
 loop-again : tie.Need-loop-again Inv-loop μ-loop
-loop-again c = (omega arith, line-passes (λ (i, s). all? (λ q. ltb q (c .before .before .before .before .args .count)) (both s)) (stored-step (c .before .before .before .before .args .steps .now)) (c .before .before .before .before .args .n) _ (c .before .before .loop-test .taken) (sym (c .before .exprs-there .ensures) ∙ not-false _ (c .if1 .left)) (c .before .before .before .loop .inv .1))
+loop-again c =
+    let start = c .before .before .before .before in
+    let a = start .args in
+    (omega arith, line-passes (λ (i, s). all? (λ q. ltb q (a .count)) (both s)) (stored-step (a .steps .now)) (a .n) _ (c .before .before .loop-test .taken) (sym (c .before .exprs-there .ensures) ∙ not-false _ (c .if1 .left)) (c .before .before .before .loop .inv .1))
 
 returns-2 : tie.Need-returns-2 Inv-loop μ-loop
 returns-2 c = lines-pass (λ (i, s). all? (λ q. ltb q (c .before .before .args .count)) (both s)) (stored-step (c .before .before .args .steps .now)) (c .before .before .args .n) (c .before .loop .i) (omega arith) (c .before .loop .inv .1)

@@ -25,7 +25,10 @@ inputs-earlier-requires : tie.Need-inputs-earlier-requires Inv-loop μ-loop
 inputs-earlier-requires c κs = (let h = c .before .before .pre in record { few = omega (arith, h .few); formed = h .formed _ (c .loop-test .taken) })
 
 returns : tie.Need-returns Inv-loop μ-loop
-returns c = λ es. line-fails (inputs-earlier (record { exprs = es; steps = stored-steps (c .before .before .before .before .args .steps .now) (c .before .before .before .before .args .n) })) (stored-step (c .before .before .before .before .args .steps .now)) (c .before .before .before .before .args .n) _ (c .before .before .loop-test .taken) (sym (c .before .inputs-earlier .ensures es _ (c .before .before .loop-test .taken)) ∙ not-true _ (c .if1 .taken)) (c .before .before .before .loop .inv .1 es)
+returns c =
+    let s = c .before .before .before .before in
+    let a = s .args in
+    λ es. line-fails (inputs-earlier (record { exprs = es; steps = stored-steps (a .steps .now) (a .n) })) (stored-step (a .steps .now)) (a .n) _ (c .before .before .loop-test .taken) (sym (c .before .inputs-earlier .ensures es _ (c .before .before .loop-test .taken)) ∙ not-true _ (c .if1 .taken)) (c .before .before .before .loop .inv .1 es)
 
 add-i : tie.Need-add-i Inv-loop μ-loop
 add-i c = omega (arith, c .before .before .before .before .pre .few)
@@ -34,10 +37,16 @@ loop-less : tie.Need-loop-less Inv-loop μ-loop
 loop-less c = omega arith
 
 loop-again : tie.Need-loop-again Inv-loop μ-loop
-loop-again c = (omega arith, λ es. line-passes (inputs-earlier (record { exprs = es; steps = stored-steps (c .before .before .before .before .args .steps .now) (c .before .before .before .before .args .n) })) (stored-step (c .before .before .before .before .args .steps .now)) (c .before .before .before .before .args .n) _ (c .before .before .loop-test .taken) (sym (c .before .inputs-earlier .ensures es _ (c .before .before .loop-test .taken)) ∙ not-false _ (c .if1 .left)) (c .before .before .before .loop .inv .1 es))
+loop-again c =
+    let s = c .before .before .before .before in
+    let a = s .args in
+    (omega arith, λ es. line-passes (inputs-earlier (record { exprs = es; steps = stored-steps (a .steps .now) (a .n) })) (stored-step (a .steps .now)) (a .n) _ (c .before .before .loop-test .taken) (sym (c .before .inputs-earlier .ensures es _ (c .before .before .loop-test .taken)) ∙ not-false _ (c .if1 .left)) (c .before .before .before .loop .inv .1 es))
 
 returns-2 : tie.Need-returns-2 Inv-loop μ-loop
-returns-2 c = λ es. lines-pass (inputs-earlier (record { exprs = es; steps = stored-steps (c .before .before .args .steps .now) (c .before .before .args .n) })) (stored-step (c .before .before .args .steps .now)) (c .before .before .args .n) (c .before .loop .i) (omega arith) (c .before .loop .inv .1 es)
+returns-2 c =
+    let s = c .before .before in
+    let a = s .args in
+    λ es. lines-pass (inputs-earlier (record { exprs = es; steps = stored-steps (a .steps .now) (a .n) })) (stored-step (a .steps .now)) (a .n) (c .before .loop .i) (omega arith) (c .before .loop .inv .1 es)
 
 pub all-inputs-earlier-spec : {M : Type 1} → statement M
 all-inputs-earlier-spec =

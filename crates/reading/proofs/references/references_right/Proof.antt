@@ -8,19 +8,28 @@ all-children-earlier-requires : tie.Need-all-children-earlier-requires
 all-children-earlier-requires c κs = search needs
 
 returns : tie.Need-returns
-returns c = not-children (c .before .before .args .exprs .now) (c .before .before .args .steps .now) (c .before .before .args .count) (c .before .before .args .n) (c .before .all-children-earlier .ensures) (not-true _ (c .if1 .taken))
+returns c =
+    let s = c .before .before in
+    let a = s .args in
+    not-children (a .exprs .now) (a .steps .now) (a .count) (a .n) (c .before .all-children-earlier .ensures) (not-true _ (c .if1 .taken))
 
 all-inputs-earlier-requires : tie.Need-all-inputs-earlier-requires
 all-inputs-earlier-requires c κs = search needs
 
 returns-2 : tie.Need-returns-2
-returns-2 c = not-inputs (c .before .before .before .before .args .exprs .now) (c .before .before .before .before .args .steps .now) (c .before .before .before .before .args .count) (c .before .before .before .before .args .n) (c .before .before .before .all-children-earlier .ensures) (c .before .all-inputs-earlier .ensures _) (not-false _ (c .before .before .if1 .left)) (not-true _ (c .if2 .taken))
+returns-2 c =
+    let s = c .before .before .before .before in
+    let a = s .args in
+    not-inputs (a .exprs .now) (a .steps .now) (a .count) (a .n) (c .before .before .before .all-children-earlier .ensures) (c .before .all-inputs-earlier .ensures _) (not-false _ (c .before .before .if1 .left)) (not-true _ (c .if2 .taken))
 
 all-exprs-there-requires : tie.Need-all-exprs-there-requires
 all-exprs-there-requires c κs = search needs
 
 returns-3 : tie.Need-returns-3
-returns-3 c = all-three (c .before .before .before .before .before .args .exprs .now) (c .before .before .before .before .before .args .steps .now) (c .before .before .before .before .before .args .count) (c .before .before .before .before .before .args .n) (c .before .before .before .before .all-children-earlier .ensures) (c .before .before .all-inputs-earlier .ensures _) (c .all-exprs-there .ensures) (not-false _ (c .before .before .before .if1 .left)) (not-false _ (c .before .if2 .left))
+returns-3 c =
+    let s = c .before .before .before .before .before in
+    let a = s .args in
+    all-three (a .exprs .now) (a .steps .now) (a .count) (a .n) (c .before .before .before .before .all-children-earlier .ensures) (c .before .before .all-inputs-earlier .ensures _) (c .all-exprs-there .ensures) (not-false _ (c .before .before .before .if1 .left)) (not-false _ (c .before .if2 .left))
 
 pub references-right-spec : {M : Type 1} → statement M
 references-right-spec =

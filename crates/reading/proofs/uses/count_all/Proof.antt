@@ -35,7 +35,10 @@ loop-again : tie.Need-loop-again Inv-loop μ-loop
 loop-again c = (omega arith, and-more _ _ _ _ _ _ (c .before .before .before .before .loop .inv .1) (open-names (c .count .ensures)) (next-taken (c .before .before .before .before .before .before .args .bytes .now) (c .before .before .before .before .before .before .args .at) (c .before .before .before .before .loop .j) (omega arith)))
 
 returns : tie.Need-returns Inv-loop μ-loop
-returns c = close-names _ _ _ _ (c .before .loop .inv .1) (ap (λ k. take k (drop (c .before .before .before .args .at) (c .before .before .before .args .bytes .now))) (let e : c .before .loop .j ≡ c .before .before .before .args .n = omega arith in e))
+returns c =
+    let s = c .before .before .before in
+    let a = s .args in
+    close-names _ _ _ _ (c .before .loop .inv .1) (ap (λ k. take k (drop (a .at) (a .bytes .now))) (let e : c .before .loop .j ≡ a .n = omega arith in e))
 
 pub count-all-spec : {M : Type 1} → statement M
 count-all-spec =

@@ -14,7 +14,10 @@ each-once-requires : tie.Need-each-once-requires
 each-once-requires c κs = search needs
 
 returns : tie.Need-returns
-returns c = exprs-counted (c .before .before .before .before .before .before .args .exprs .now) (c .before .before .before .before .before .before .args .steps .now) (c .before .before .before .before .before .before .args .count) (c .before .before .before .before .before .before .args .n) (c .each-once .ensures (c .before .before .before .before .before .before .args .exprs .now) _ (c .before .before .count-expressions .ensures _ (c .before .before .before .before .count-children .ensures [] none-counted)))
+returns c =
+    let s = c .before .before .before .before .before .before in
+    let a = s .args in
+    exprs-counted (a .exprs .now) (a .steps .now) (a .count) (a .n) (c .each-once .ensures (a .exprs .now) _ (c .before .before .count-expressions .ensures _ (c .before .before .before .before .count-children .ensures [] none-counted)))
 
 pub exprs-used-once-spec : {M : Type 1} → statement M
 exprs-used-once-spec =

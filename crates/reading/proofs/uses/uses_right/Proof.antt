@@ -8,19 +8,28 @@ exprs-used-once-requires : tie.Need-exprs-used-once-requires
 exprs-used-once-requires c κs = search needs
 
 returns : tie.Need-returns
-returns c = not-exprs (c .before .before .args .exprs .now) (c .before .before .args .steps .now) (c .before .before .args .count) (c .before .before .args .n) (c .before .exprs-used-once .ensures) (not-true _ (c .if1 .taken))
+returns c =
+    let s = c .before .before in
+    let a = s .args in
+    not-exprs (a .exprs .now) (a .steps .now) (a .count) (a .n) (c .before .exprs-used-once .ensures) (not-true _ (c .if1 .taken))
 
 steps-used-requires : tie.Need-steps-used-requires
 steps-used-requires c κs = search needs
 
 returns-2 : tie.Need-returns-2
-returns-2 c = not-steps (c .before .before .before .before .args .exprs .now) (c .before .before .before .before .args .steps .now) (c .before .before .before .before .args .count) (c .before .before .before .before .args .n) (c .before .before .before .exprs-used-once .ensures) (c .before .steps-used .ensures) (not-false _ (c .before .before .if1 .left)) (not-true _ (c .if2 .taken))
+returns-2 c =
+    let s = c .before .before .before .before in
+    let a = s .args in
+    not-steps (a .exprs .now) (a .steps .now) (a .count) (a .n) (c .before .before .before .exprs-used-once .ensures) (c .before .steps-used .ensures) (not-false _ (c .before .before .if1 .left)) (not-true _ (c .if2 .taken))
 
 ids-differ-requires : tie.Need-ids-differ-requires
 ids-differ-requires c κs = search needs
 
 returns-3 : tie.Need-returns-3
-returns-3 c = all-uses (c .before .before .before .before .before .args .exprs .now) (c .before .before .before .before .before .args .steps .now) (c .before .before .before .before .before .args .count) (c .before .before .before .before .before .args .n) (c .before .before .before .before .exprs-used-once .ensures) (c .before .before .steps-used .ensures) (c .ids-differ .ensures) (not-false _ (c .before .before .before .if1 .left)) (not-false _ (c .before .if2 .left))
+returns-3 c =
+    let s = c .before .before .before .before .before in
+    let a = s .args in
+    all-uses (a .exprs .now) (a .steps .now) (a .count) (a .n) (c .before .before .before .before .exprs-used-once .ensures) (c .before .before .steps-used .ensures) (c .ids-differ .ensures) (not-false _ (c .before .before .before .if1 .left)) (not-false _ (c .before .if2 .left))
 
 pub uses-right-spec : {M : Type 1} → statement M
 uses-right-spec =

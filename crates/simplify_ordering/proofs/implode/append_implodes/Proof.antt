@@ -33,26 +33,29 @@ cast-count c = omega (arith, c .aggs-of .ensures .few)
 
 loop-holds : tie.Need-loop-holds Inv-loop μ-loop
 loop-holds c =
-    (c .before .before .pre .0 .0, c .before .before .pre .1 .0, imploding-none (c .before .before .args .i) _ _ _ refl (omega (arith, c .before .before .pre .0 .1, length-steps (now (c .before .before .args .steps)) (c .before .before .args .n-steps))))
+    let s = c .before .before in
+    let a = s .args in
+    (s .pre .0 .0, s .pre .1 .0, imploding-none (a .i) _ _ _ refl (omega (arith, s .pre .0 .1, length-steps (now (a .steps)) (a .n-steps))))
 
 element-copy-out-implode-agg : tie.Need-element-copy-out-implode-agg Inv-loop μ-loop
 element-copy-out-implode-agg c = omega (arith, c .before .before .before .before .before .before .aggs-of .ensures .few)
 
 implode-agg-requires : tie.Need-implode-agg-requires Inv-loop μ-loop
 implode-agg-requires c κs =
-    let a = c .before .before .before .before .before .before .before .before .before .args in
+    let s = c .before .before .before .before .before .before .before .before .before in
+    let a = s .args in
     let l = c .before .before .before .before .before .before .loop in
     let qs : List ℕ = step-at (stored-steps (now (a .steps)) (a .n-steps)) (a .i) .aggs in
-    let here : a .i < length (stored-steps (now (a .steps)) (a .n-steps)) = omega (arith, c .before .before .before .before .before .before .before .before .before .pre .0 .1, length-steps (now (a .steps)) (a .n-steps)) in
+    let here : a .i < length (stored-steps (now (a .steps)) (a .n-steps)) = omega (arith, s .pre .0 .1, length-steps (now (a .steps)) (a .n-steps)) in
     let more : l .k < length qs = omega (arith, c .before .before .before .before .before .loop-test .taken, list-length qs (c .before .before .before .before .before .before .before .aggs-of .result) (c .before .before .before .before .before .before .before .aggs-of .ensures)) in
     let at = list-at qs (c .before .before .before .before .before .before .before .aggs-of .result) (c .before .before .before .before .before .before .before .aggs-of .ensures) (l .k) (c .before .before .before .before .before .loop-test .taken) in
     let es = arena-of (now (a .recs)) (now (a .line)) (now (a .off)) (a .n) in
     let es′ : List Expr = arena-of (l .recs) (l .line) (l .off) (l .m) in
     let g = l .inv .2 in (
-      (l .inv .0, c .before .before .before .before .before .before .before .before .before .pre .0 .1, omega (arith, its-n3 (l .steps) (a .n-steps) (a .i) (l .inv .0) (c .before .before .before .before .before .before .before .before .before .pre .0 .1), same-length (a .i) qs es _ refl here (l .k) es′ _ g, more)),
+      record { held = l .inv .0; here = s .pre .0 .1; there = omega (arith, its-n3 (l .steps) (a .n-steps) (a .i) (l .inv .0) (s .pre .0 .1), same-length (a .i) qs es _ refl here (l .k) es′ _ g, more) },
       (
-        (l .inv .1, omega (arith, at, c .before .before .before .before .before .before .before .before .before .pre .1 .1 .0 _ (mem-at qs (l .k) 0 more), g .longer, length-arena (now (a .recs)) (now (a .line)) (now (a .off)) (a .n), length-arena (l .recs) (l .line) (l .off) (l .m))),
-        (at ∙ entry-is (a .i) qs es _ refl here (l .k) es′ _ g more, rw at (room-for-one (a .i) qs es _ refl here (l .k) es′ _ g more (c .before .before .before .before .before .before .before .before .before .pre .1 .1 .1))),
+        (l .inv .1, omega (arith, at, s .pre .1 .1 .0 _ (mem-at qs (l .k) 0 more), g .longer, length-arena (now (a .recs)) (now (a .line)) (now (a .off)) (a .n), length-arena (l .recs) (l .line) (l .off) (l .m))),
+        (at ∙ entry-is (a .i) qs es _ refl here (l .k) es′ _ g more, rw at (room-for-one (a .i) qs es _ refl here (l .k) es′ _ g more (s .pre .1 .1 .1))),
       ),
     )
 

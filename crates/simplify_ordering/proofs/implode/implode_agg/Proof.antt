@@ -14,12 +14,16 @@ is-scalar-ae-requires c κs = search needs
 
 returns : tie.Need-returns
 returns c =
-    let st = stays (c .before .before .before .before .before .args .q) (arena-of (now (c .before .before .before .before .before .args .recs)) (now (c .before .before .before .before .before .args .line)) (now (c .before .before .before .before .before .args .off)) (c .before .before .before .before .before .args .n)) (c .before .is-scalar-ae .result) (c .before .is-scalar-ae .ensures) (c .before .before .before .before .before .args .i) (c .before .before .before .before .before .args .k) (stored-steps (now (c .before .before .before .before .before .args .steps)) (c .before .before .before .before .before .args .n-steps)) (c .if1 .taken) (c .before .before .before .before .before .pre .1 .1 .0) in
-    (st .0, (st .1, (c .before .before .before .before .before .pre .1 .0 .0, c .before .before .before .before .before .pre .0 .0)))
+    let s = c .before .before .before .before .before in
+    let a = s .args in
+    let st = stays (a .q) (arena-of (now (a .recs)) (now (a .line)) (now (a .off)) (a .n)) (c .before .is-scalar-ae .result) (c .before .is-scalar-ae .ensures) (a .i) (a .k) (stored-steps (now (a .steps)) (a .n-steps)) (c .if1 .taken) (s .pre .1 .1 .0) in
+    (st .0, (st .1, (s .pre .1 .0 .0, s .pre .0 .held)))
 
 append-implode-requires : tie.Need-append-implode-requires
 append-implode-requires c κs =
-    (c .before .before .before .before .before .before .before .before .pre .1 .0 .0, (omega (arith, has-room (c .before .before .before .before .before .before .before .before .args .q) (arena-of (now (c .before .before .before .before .before .before .before .before .args .recs)) (now (c .before .before .before .before .before .before .before .before .args .line)) (now (c .before .before .before .before .before .before .before .before .args .off)) (c .before .before .before .before .before .before .before .before .args .n)) (c .before .before .before .before .is-scalar-ae .result) (c .before .before .before .before .is-scalar-ae .ensures) (c .before .before .before .before .before .before .before .before .args .i) (c .before .before .before .before .before .before .before .before .args .k) (stored-steps (now (c .before .before .before .before .before .before .before .before .args .steps)) (c .before .before .before .before .before .before .before .before .args .n-steps)) (c .before .before .before .if1 .left) (c .before .before .before .before .before .before .before .before .pre .1 .1 .1), length-arena (now (c .before .before .before .before .before .before .before .before .args .recs)) (now (c .before .before .before .before .before .before .before .before .args .line)) (now (c .before .before .before .before .before .before .before .before .args .off)) (c .before .before .before .before .before .before .before .before .args .n)), c .before .before .before .before .before .before .before .before .pre .1 .0 .1))
+    let s = c .before .before .before .before .before .before .before .before in
+    let a = s .args in
+    (s .pre .1 .0 .0, (omega (arith, has-room (a .q) (arena-of (now (a .recs)) (now (a .line)) (now (a .off)) (a .n)) (c .before .before .before .before .is-scalar-ae .result) (c .before .before .before .before .is-scalar-ae .ensures) (a .i) (a .k) (stored-steps (now (a .steps)) (a .n-steps)) (c .before .before .before .if1 .left) (s .pre .1 .1 .1), length-arena (now (a .recs)) (now (a .line)) (now (a .off)) (a .n)), s .pre .1 .0 .1))
 
 cast-store-agg : tie.Need-cast-store-agg
 cast-store-agg c = search needs
@@ -32,7 +36,9 @@ add-result c = search needs
 
 returns-2 : tie.Need-returns-2
 returns-2 c =
-    let st = appended (c .before .before .before .before .before .before .before .before .before .before .before .args .q) (arena-of (now (c .before .before .before .before .before .before .before .before .before .before .before .args .recs)) (now (c .before .before .before .before .before .before .before .before .before .before .before .args .line)) (now (c .before .before .before .before .before .before .before .before .before .before .before .args .off)) (c .before .before .before .before .before .before .before .before .before .before .before .args .n)) (c .before .before .before .before .before .before .before .is-scalar-ae .result) (c .before .before .before .before .before .before .before .is-scalar-ae .ensures) (c .before .before .before .before .before .before .before .before .before .before .before .args .i) (c .before .before .before .before .before .before .before .before .before .before .before .args .k) (stored-steps (now (c .before .before .before .before .before .before .before .before .before .before .before .args .steps)) (c .before .before .before .before .before .before .before .before .before .before .before .args .n-steps)) (c .before .before .before .before .before .before .if1 .left) (c .before .before .append-implode .ensures .0) (c .store-agg .ensures .0 ∙ ap (λ m. with-agg (c .before .before .before .before .before .before .before .before .before .before .before .args .i) (c .before .before .before .before .before .before .before .before .before .before .before .args .k) m (stored-steps (now (c .before .before .before .before .before .before .before .before .before .before .before .args .steps)) (c .before .before .before .before .before .before .before .before .before .before .before .args .n-steps))) (sym (length-arena (now (c .before .before .before .before .before .before .before .before .before .before .before .args .recs)) (now (c .before .before .before .before .before .before .before .before .before .before .before .args .line)) (now (c .before .before .before .before .before .before .before .before .before .before .before .args .off)) (c .before .before .before .before .before .before .before .before .before .before .before .args .n)))) in
+    let s = c .before .before .before .before .before .before .before .before .before .before .before in
+    let a = s .args in
+    let st = appended (a .q) (arena-of (now (a .recs)) (now (a .line)) (now (a .off)) (a .n)) (c .before .before .before .before .before .before .before .is-scalar-ae .result) (c .before .before .before .before .before .before .before .is-scalar-ae .ensures) (a .i) (a .k) (stored-steps (now (a .steps)) (a .n-steps)) (c .before .before .before .before .before .before .if1 .left) (c .before .before .append-implode .ensures .0) (c .store-agg .ensures .0 ∙ ap (λ m. with-agg (a .i) (a .k) m (stored-steps (now (a .steps)) (a .n-steps))) (sym (length-arena (now (a .recs)) (now (a .line)) (now (a .off)) (a .n)))) in
     (st .0, (st .1, (c .before .before .append-implode .ensures .1, c .store-agg .ensures .1)))
 
 pub implode-agg-spec : {M : Type 1} → statement M

@@ -13,9 +13,10 @@ number-requires c κs = search needs
 
 append-implodes-requires : tie.Need-append-implodes-requires
 append-implodes-requires c κs =
-    let a = c .before .before .before .before .before .before .args in
-    let g = grouped (step-at (stored-steps (now (a .steps)) (a .n-steps)) (a .i)) (arena-of (now (a .recs)) (now (a .line)) (now (a .off)) (a .n)) (c .before .before .before .before .before .number .result) (c .before .before .before .before .before .number .ensures ∙ ap ir-number (c .before .before .before .before .before .before .pre .1 .0 .1)) (c .before .before .before .before .if1 .taken) in
-    (c .before .before .before .before .before .before .pre .0, (c .before .before .before .before .before .before .pre .1 .0 .0, (c .before .before .before .before .before .before .pre .1 .1 .0, rw g at (c .before .before .before .before .before .before .pre .1 .1 .1))))
+    let s = c .before .before .before .before .before .before in
+    let a = s .args in
+    let g = grouped (step-at (stored-steps (now (a .steps)) (a .n-steps)) (a .i)) (arena-of (now (a .recs)) (now (a .line)) (now (a .off)) (a .n)) (c .before .before .before .before .before .number .result) (c .before .before .before .before .before .number .ensures ∙ ap ir-number (s .pre .1 .0 .1)) (c .before .before .before .before .if1 .taken) in
+    (s .pre .0, (s .pre .1 .0 .0, (s .pre .1 .1 .0, rw g at (s .pre .1 .1 .1))))
 
 returns : tie.Need-returns
 returns c =
@@ -25,9 +26,10 @@ returns c =
 
 returns-2 : tie.Need-returns-2
 returns-2 c =
-    let a = c .before .before .args in
-    let g = ungrouped (step-at (stored-steps (now (a .steps)) (a .n-steps)) (a .i)) (arena-of (now (a .recs)) (now (a .line)) (now (a .off)) (a .n)) (c .before .number .result) (c .before .number .ensures ∙ ap ir-number (c .before .before .pre .1 .0 .1)) (c .if1 .left) in
-    rw g (refl, (same-step (stored-steps (now (a .steps)) (a .n-steps)) (a .i), (c .before .before .pre .1 .0 .0, c .before .before .pre .0 .0)))
+    let s = c .before .before in
+    let a = s .args in
+    let g = ungrouped (step-at (stored-steps (now (a .steps)) (a .n-steps)) (a .i)) (arena-of (now (a .recs)) (now (a .line)) (now (a .off)) (a .n)) (c .before .number .result) (c .before .number .ensures ∙ ap ir-number (s .pre .1 .0 .1)) (c .if1 .left) in
+    rw g (refl, (same-step (stored-steps (now (a .steps)) (a .n-steps)) (a .i), (s .pre .1 .0 .0, s .pre .0 .0)))
 
 pub with-implodes-spec : {M : Type 1} → statement M
 with-implodes-spec =

@@ -32,7 +32,7 @@ store-options-requires c κs = search needs
 loosen-edges-requires : tie.Need-loosen-edges-requires
 loosen-edges-requires c κs =
     let ask = c .before .before .before .before .before .before .before .before .before .before .pre in
-    (ask .few, omega (arith, ask .there, ask .steps-held .few), ask .bytes, ask .run)
+    ((record { few = ask .few; small = omega (arith, ask .there, ask .steps-held .few) }, ask .bytes), ask .run)
 
 returns-2 : tie.Need-returns-2
 returns-2 c =

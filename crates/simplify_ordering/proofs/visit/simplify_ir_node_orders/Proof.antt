@@ -13,6 +13,7 @@ use Rattle.plan.specs.Sheet.{step-at}
 use Rattle.plan.specs.Visit.{around}
 use Rattle.storage.specs.Stored.{arena-of, stored-steps}
 use Rattle.storage.specs.Edges.{stored-edges}
+use Rattle.node_rules.specs.Held.{Among}
 use Rattle.simplify_ordering.specs.Run.{run-of, Finds}
 use Rattle.simplify_ordering.proofs.VisitLaws.{tests-read, goes-is, goes-on, goes-away, here-is, edges-held, unlinkable, settle-asked}
 use Rattle.simplify_ordering.proofs.visit.simplify_ir_node_orders.Statement.{statement}
@@ -23,8 +24,8 @@ here s =
     let a = s .args in
     here-is (now (a .recs)) (now (a .line)) (now (a .off)) (a .exprs) (now (a .steps)) (now (a .ends)) (now (a .edges)) (a .size) (a .tally) (s .pre .0 .0) (a .n) (s .pre .1)
 
-small : (s : tie.Start) → s .args .n < 32
-small s = omega (arith, s .pre .0 .0 .steps-held .few, here s)
+among : (s : tie.Start) → Among (s .args .size .edges) (s .args .n)
+among s = record { few = s .pre .0 .0 .few; small = omega (arith, s .pre .0 .0 .steps-held .few, here s) }
 
 -- the step as this visit finds it
 found : (c : tie.After-around-step) → Finds (now (c .before .before .before .before .before .args .steps)) (now (c .before .before .before .before .before .args .ends)) (now (c .before .before .before .before .before .args .edges)) (c .before .before .before .before .before .args .size)
@@ -50,13 +51,13 @@ options-of-requires c κs = (c .before .pre .0 .0 .steps-held, here (c .before))
 in-edges-of-requires : tie.Need-in-edges-of-requires
 in-edges-of-requires c κs =
     let s = c .before .before in
-    (s .pre .0 .0 .few, small s, s .pre .0 .1 (s .args .n) (here s))
+    (among s, s .pre .0 .1 (s .args .n) (here s))
 
 around-step-requires : tie.Need-around-step-requires
 around-step-requires c κs =
     let s = c .before .before .before .before in
     let run = c .before .in-edges-of .ensures in
-    (s .pre .0 .0 .few, small s, run .order, run .fits)
+    (among s, record { order = run .order; fits = run .fits })
 
 goes-requires : tie.Need-goes-requires
 goes-requires c κs = search needs

@@ -42,13 +42,13 @@ loop-again : tie.Need-loop-again Inv-loop μ-loop
 loop-again c =
     let l = c .before .before .loop in
     let p = c .before .before .before .pre in
-    (omega arith, one-copied _ _ _ (omega (arith, p .1, p .2)) (p .0) (l .k) (l .recs) (omega arith) (l .inv .1))
+    (omega arith, one-copied _ _ _ (omega (arith, p .few, p .records)) (p .lower) (l .k) (l .recs) (omega arith) (l .inv .1))
 
 returns : tie.Need-returns Inv-loop μ-loop
 returns c =
     let l = c .before .loop in
     let p = c .before .before .pre in
-    all-copied _ _ _ (omega (arith, p .1, p .2)) (p .0) (l .k) (l .recs) (omega arith) (p .3) (l .inv .1)
+    all-copied _ _ _ (omega (arith, p .few, p .records)) (p .lower) (l .k) (l .recs) (omega arith) (p .formed) (l .inv .1)
 
 pub copy-record-spec : {M : Type 1} → statement M
 copy-record-spec =

@@ -34,12 +34,12 @@ element-write-recs c = search needs
 copied : (c : tie.Joined1)
     → let a = c .before .before .args in Expr-stored (now (a .recs)) (a .p) (stored-expr (now (a .recs)) (getD (now (a .line)) (a .p) 0)) (c .if1 .recs)
 copied c =
-    ⊎-elim (λ w. rw (w .3) (w .2 .ensures)) (λ w. rw (w .1) (own-record _ _ _ (w .0 .left) (c .before .before .pre .3))) (c .if1 .came)
+    ⊎-elim (λ w. rw (w .3) (w .2 .ensures)) (λ w. rw (w .1) (own-record _ _ _ (w .0 .left) (c .before .before .pre .formed))) (c .if1 .came)
 
 returns : tie.Need-returns
 returns c =
     let p = c .before .before .before .before .pre in
-    line-off _ _ _ _ _ (copied (c .before .before)) (omega (arith, p .0, p .1)) (c .if2 .taken)
+    line-off _ _ _ _ _ (copied (c .before .before)) (omega (arith, p .few, p .records)) (c .if2 .taken)
 
 returns-2 : tie.Need-returns-2
 returns-2 c = line-on _ _ _ _ _ (copied (c .before .before)) (c .if2 .left)

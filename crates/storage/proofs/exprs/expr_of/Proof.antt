@@ -90,7 +90,7 @@ element-copy-out-t57 c = search needs
 returns : tie.Need-returns
 returns c =
     let s0 = c .before .before .before .before .before .before .before .before .before .before .before .before .before .before .before in
-    is-held _ _ (s0 .pre .1) (s0 .pre .2) _ _ _ (c .before .before .before .before .before .before .before .before .before .before .before .of-number .ensures) (c .before .before .before .before .before .before .before .before .before .before .before .before .before .pick-byte .ensures)
+    is-held _ _ (s0 .pre .room) (s0 .pre .formed) _ _ _ (c .before .before .before .before .before .before .before .before .before .before .before .of-number .ensures) (c .before .before .before .before .before .before .before .before .before .before .before .before .before .pick-byte .ensures)
 
 pub expr-of-spec : {M : Type 1} → statement M
 expr-of-spec =

@@ -6,69 +6,56 @@ use borrow.Author.Needs.{needs}
 use Rattle.storage.proofs.steps.entries_from.Statement.{statement}
 use Rattle.storage.proofs.steps.entries_from.Tie as tie
 
--- src/steps.rt:24:13
 element-copy-out-t6 : tie.Need-element-copy-out-t6
 element-copy-out-t6 c = search needs
 
--- src/steps.rt:25:19
 add-t7 : tie.Need-add-t7
 add-t7 c = search needs
 
--- src/steps.rt:25:13
 element-copy-out-t10 : tie.Need-element-copy-out-t10
 element-copy-out-t10 c = search needs
 
--- src/steps.rt:26:19
 add-t11 : tie.Need-add-t11
 add-t11 c = search needs
 
--- src/steps.rt:26:13
 element-copy-out-t14 : tie.Need-element-copy-out-t14
 element-copy-out-t14 c = search needs
 
--- src/steps.rt:27:19
 add-t15 : tie.Need-add-t15
 add-t15 c = search needs
 
--- src/steps.rt:27:13
 element-copy-out-t18 : tie.Need-element-copy-out-t18
 element-copy-out-t18 c = search needs
 
--- src/steps.rt:28:19
 add-t19 : tie.Need-add-t19
 add-t19 c = search needs
 
--- src/steps.rt:28:13
 element-copy-out-t22 : tie.Need-element-copy-out-t22
 element-copy-out-t22 c = search needs
 
--- src/steps.rt:29:19
 add-t23 : tie.Need-add-t23
 add-t23 c = search needs
 
--- src/steps.rt:29:13
 element-copy-out-t26 : tie.Need-element-copy-out-t26
 element-copy-out-t26 c = search needs
 
--- src/steps.rt:30:19
 add-t27 : tie.Need-add-t27
 add-t27 c = search needs
 
--- src/steps.rt:30:13
 element-copy-out-t30 : tie.Need-element-copy-out-t30
 element-copy-out-t30 c = search needs
 
--- src/steps.rt:31:19
 add-t31 : tie.Need-add-t31
 add-t31 c = search needs
 
--- src/steps.rt:31:13
 element-copy-out-t34 : tie.Need-element-copy-out-t34
 element-copy-out-t34 c = search needs
 
--- src/steps.rt:18:1
 returns : tie.Need-returns
-returns c = record { is = eight-taken (now (c .before .before .before .before .before .before .before .before .args .steps)) (c .before .before .before .before .before .before .before .before .args .b) (omega arith) (c .before .before .before .before .before .before .before .before .args .count) (omega arith); few = c .before .before .before .before .before .before .before .before .pre .1; room = refl }
+returns c =
+    let s = c .before .before .before .before .before .before .before .before in
+    let p = s .pre in
+    record { is = eight-taken (now (s .args .steps)) (s .args .b) (omega (arith, p .room, p .size)) (s .args .count) (p .few); few = p .few; room = refl }
 
 pub entries-from-spec : {M : Type 1} → statement M
 entries-from-spec =

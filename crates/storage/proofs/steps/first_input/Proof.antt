@@ -14,7 +14,7 @@ element-copy-out-result : tie.Need-element-copy-out-result
 element-copy-out-result c = search needs
 
 returns : tie.Need-returns
-returns c = let s = c .before in first-input (now (s .args .steps)) (s .args .n) (s .args .i) (s .pre .0) (s .pre .1) (s .pre .2)
+returns c = let s = c .before in first-input (now (s .args .steps)) (s .args .n) (s .args .i) (s .pre .held) (s .pre .here) (s .pre .some)
 
 pub first-input-spec : {M : Type 1} → statement M
 first-input-spec = tie.close (tie.spec mul-result add-result element-copy-out-result returns)

@@ -33,7 +33,10 @@ element-write-steps-4 : tie.Need-element-write-steps-4
 element-write-steps-4 c = search needs
 
 returns : tie.Need-returns
-returns c = (options-law (now (c .before .args .steps)) (c .before .args .n) (c .before .args .i) (c .before .pre .0) (c .before .pre .1) (c .before .args .o) (c .number .result) (c .number .ensures) (rw (c .number .ensures) (ir-small (c .before .args .o .kind))), options-held (now (c .before .args .steps)) (c .before .args .n) (c .before .args .i) (c .before .pre .0) (c .before .pre .1) (c .before .args .o) (c .number .result) (c .number .ensures) (rw (c .number .ensures) (ir-small (c .before .args .o .kind))))
+returns c =
+    let s = c .before in
+    let a = s .args in
+    (options-law (now (a .steps)) (a .n) (a .i) (s .pre .0) (s .pre .1) (a .o) (c .number .result) (c .number .ensures) (rw (c .number .ensures) (ir-small (a .o .kind))), options-held (now (a .steps)) (a .n) (a .i) (s .pre .0) (s .pre .1) (a .o) (c .number .result) (c .number .ensures) (rw (c .number .ensures) (ir-small (a .o .kind))))
 
 pub store-options-spec : {M : Type 1} → statement M
 store-options-spec =

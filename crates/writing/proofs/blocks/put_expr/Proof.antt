@@ -40,7 +40,10 @@ same-length : tie.Need-same-length
 same-length c = search needs
 
 returns : tie.Need-returns
-returns c = (rw (stored-expr-printed (now (c .before .before .before .before .before .before .before .before .args .exprs)) (c .before .before .before .before .before .before .before .before .args .i) (search needs) (c .before .before .before .before .before .before .before .before .pre .1 .0)) (rw span at (c .before .before .put-line .ensures .0)), omega arith)
+returns c =
+    let s = c .before .before .before .before .before .before .before .before in
+    let a = s .args in
+    (rw (stored-expr-printed (now (a .exprs)) (a .i) (search needs) (s .pre .1 .0)) (rw span at (c .before .before .put-line .ensures .0)), omega arith)
 
 pub put-expr-spec : {M : Type 1} → statement M
 put-expr-spec =

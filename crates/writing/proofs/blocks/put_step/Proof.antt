@@ -64,7 +64,10 @@ same-length : tie.Need-same-length
 same-length c = search needs
 
 returns : tie.Need-returns
-returns c = (rw (stored-step-printed (now (c .before .before .before .before .before .before .before .before .before .before .args .steps)) (c .before .before .before .before .before .before .before .before .before .before .args .i) (search needs) (c .before .before .before .before .before .before .before .before .before .before .pre .1 .0)) (rw span at (c .before .before .put-line .ensures .0)), omega arith)
+returns c =
+    let s = c .before .before .before .before .before .before .before .before .before .before in
+    let a = s .args in
+    (rw (stored-step-printed (now (a .steps)) (a .i) (search needs) (s .pre .1 .0)) (rw span at (c .before .before .put-line .ensures .0)), omega arith)
 
 pub put-step-spec : {M : Type 1} → statement M
 put-step-spec =

@@ -22,8 +22,10 @@ part-write-number-end c = search needs
 
 write-number-requires : tie.Need-write-number-requires
 write-number-requires c κs =
-    room-rest (44 ∷ []) (decimal (c .before .before .before .before .before .before .args .n)) (now (c .before .before .before .before .before .before .args .out)) _ _
-    (omega (arith, wide-short (c .before .before .before .before .before .before .args .n) (omega arith))) (c .before .before .before .put-byte .ensures)
+    let s = c .before .before .before .before .before .before in
+    let a = s .args in
+    room-rest (44 ∷ []) (decimal (a .n)) (now (a .out)) _ _
+    (omega (arith, wide-short (a .n) (omega arith))) (c .before .before .before .put-byte .ensures)
 
 add-result : tie.Need-add-result
 add-result c =

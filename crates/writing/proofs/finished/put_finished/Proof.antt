@@ -61,7 +61,7 @@ returns c =
     let w₂ = then _ _ _ _ _ _ _ w₁ (c .before .before .before .before .before .before .before .before .before .before .put-steps .ensures .0) in
     let w₃ = then _ _ _ _ _ _ _ w₂ (c .before .before .before .before .before .before .put-edges .ensures .0) in
     let w₄ = then _ _ _ _ _ _ _ w₃ (c .before .before .put-tally .ensures .0) in
-    (record { bytes = w₄ .bytes; exprs = w₁ .len; steps = w₂ .len; edges = w₃ .len; all = w₄ .len }, (refl, refl, refl))
+    (record { bytes = w₄ .bytes; exprs = w₁ .len; steps = w₂ .len; edges = w₃ .len; all = w₄ .len }, record { removed = refl; visits = refl; looks = refl })
 
 pub put-finished-spec : {M : Type 1} → statement M
 put-finished-spec =
