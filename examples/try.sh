@@ -51,13 +51,15 @@ try_mark() {
     same "mark $1 $2"
 }
 
-# A sheet, then its right paper, that paper altered, and the sheet itself as a paper.
+# A sheet, then its right paper, that paper altered, its edges alone, and the sheet itself as a paper.
 try_sheet() {
     try_finish "$1"
-    grep '^G' "$work/ours" > "$work/right" || true
+    grep '^[PG]' "$work/ours" > "$work/right" || true
     sed 's/0$/1/' "$work/right" > "$work/altered"
+    grep '^G' "$work/right" > "$work/edges" || true
     try_mark "$1" "$work/right"
     try_mark "$1" "$work/altered"
+    try_mark "$1" "$work/edges"
     try_mark "$1" "$1"
 }
 

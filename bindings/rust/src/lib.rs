@@ -5,7 +5,8 @@
 //! let sheet = b"P,0,0,0,0,0,0,0\nP,2,0,0,0,1,0,0,0\n";
 //! let finished = simplify_ordering::finish(sheet)?;
 //! assert!(finished.ends_with(b"G,1,0,0\nT,0,4,0\n"));
-//! assert_eq!(simplify_ordering::mark(sheet, b"G,1,0,0\n")?, simplify_ordering::Verdict::Right);
+//! let paper = b"P,0,0,0,0,0,0,0\nP,2,0,0,0,1,0,0,0\nG,1,0,0\n";
+//! assert_eq!(simplify_ordering::mark(sheet, paper)?, simplify_ordering::Verdict::Right);
 //! # Ok::<(), simplify_ordering::Refusal>(())
 //! ```
 mod refusal;
@@ -20,7 +21,7 @@ pub const LEAST_OUTPUT: usize = 16_384;
 /// What a paper is, if its sheet is finished.
 #[derive(Clone, Copy, Debug, PartialEq, Eq, Hash)]
 pub enum Verdict {
-    /// Its bytes are the G lines of the finished sheet, each ended by byte 10.
+    /// Its bytes are the P lines and then the G lines of the finished sheet, each ended by byte 10.
     Right,
     /// It is anything else.
     Wrong,

@@ -18,7 +18,12 @@ G,1,0,0
 T,1,5,0
 ";
 
-const PAPER_A: &[u8] = b"G,2,0,0\nG,1,0,0\n";
+const STEPS_A: &[u8] = b"P,0,0,0,0,0,0,0\nP,5,1,0,0,1,1,0,0,0\nP,2,0,0,0,1,0,0,0\n";
+const EDGES_A: &[u8] = b"G,2,0,0\nG,1,0,0\n";
+
+fn paper_a() -> Vec<u8> {
+    [STEPS_A, EDGES_A].concat()
+}
 
 /// No finished sheet has it.
 const FILL: u8 = 170;
@@ -55,13 +60,18 @@ fn lent_for(refusal: Refusal) -> usize {
 #[test]
 fn case_a() {
     assert_eq!(finish(CASE_A).as_deref(), Ok(FINISHED_A));
-    assert_eq!(mark(CASE_A, PAPER_A), Ok(Verdict::Right));
+    assert_eq!(mark(CASE_A, &paper_a()), Ok(Verdict::Right));
 }
 
 #[test]
 fn other_papers_are_wrong() {
-    let no_last_line_end = &PAPER_A[..PAPER_A.len() - 1];
-    let papers: [&[u8]; 5] = [b"", no_last_line_end, b"G,2,0,0\nG,1,0,1\n", b"G,1,0,0\nG,2,0,0\n", FINISHED_A];
+    let paper = paper_a();
+    let no_last_line_end = &paper[..paper.len() - 1];
+    let steps_as_sent = [&CASE_A[b"E,0,0,1,0\n".len()..], EDGES_A].concat();
+    let another_edge = [STEPS_A, b"G,2,0,0\nG,1,0,1\n"].concat();
+    let edges_first = [EDGES_A, STEPS_A].concat();
+    let papers: [&[u8]; 8] =
+        [b"", no_last_line_end, EDGES_A, STEPS_A, &steps_as_sent, &another_edge, &edges_first, FINISHED_A];
     for paper in papers {
         assert_eq!(mark(CASE_A, paper), Ok(Verdict::Wrong), "{}", paper.escape_ascii());
     }
@@ -77,7 +87,7 @@ fn the_bytes_behind_the_finished_sheet_stay() {
 
     let finished = out.clone();
     out.fill(FILL);
-    assert_eq!(mark_into(CASE_A, PAPER_A, &mut out), Ok(Verdict::Right));
+    assert_eq!(mark_into(CASE_A, &paper_a(), &mut out), Ok(Verdict::Right));
     assert_eq!(out, finished);
 }
 
@@ -87,11 +97,11 @@ fn each_refusal_alters_no_byte() {
         let sheet = refused_sheet(refusal);
         let mut out = vec![FILL; lent_for(refusal)];
         assert_eq!(finish_into(&sheet, &mut out), Err(refusal));
-        assert_eq!(mark_into(&sheet, PAPER_A, &mut out), Err(refusal));
+        assert_eq!(mark_into(&sheet, &paper_a(), &mut out), Err(refusal));
         assert!(out.iter().all(|&byte| byte == FILL));
         if refusal != Refusal::Output {
             assert_eq!(finish(&sheet), Err(refusal));
-            assert_eq!(mark(&sheet, PAPER_A), Err(refusal));
+            assert_eq!(mark(&sheet, &paper_a()), Err(refusal));
         }
     }
 }

@@ -1,7 +1,7 @@
 // What marking answers.
 
 pub enum Mark {
-    // The paper is the finished sheet's G lines.
+    // The paper is the P lines and then the G lines of the finished sheet.
     Right,
     Wrong,
     // The sheet's number; the output is as it was.

@@ -1,7 +1,6 @@
-// Marks a candidate's paper: are its bytes the G lines of the finished sheet?
+// Marks a candidate's paper: are its bytes the P lines and then the G lines of the finished sheet?
 ghost use mathlib.Core.Path.{_≡_};
-ghost use Prim.Native.Nat.{_≤_, _-_};
-ghost use lib.ListN.{length, take, drop};
+ghost use mathlib.Core.List.{_++_};
 ghost use Rattle.plan.specs.Lists.{same};
 ghost use Rattle.marking.specs.Marking.{mark-call, marked, verdict};
 use crate::answer::Mark;
@@ -10,12 +9,17 @@ use plan::answer::Answer;
 pub mod answer; // answer.rt: what marking answers
 pub mod line; // line.rt: the line that is printed for it
 
-// Is the paper what stands in the output from the place `start` up to the place `end`?
-fn compare(paper: &[u8], out: &[u8], start: usize, end: usize) -> Mark
-    requires { ⌜ (start ≤ end) × (end ≤ length (now out)) ⌝ }
-    ensures { λ r. ⌜ r ≡ verdict (same (now (paper .entry)) (take (end - start) (drop start (now (out .entry))))) ⌝ }
+// Is the paper the P lines, then the G lines, and nothing else?
+fn compare(paper: &[u8], steps: &[u8], edges: &[u8]) -> Mark
+    ensures { λ r. ⌜ r ≡ verdict (same (now (paper .entry)) (now (steps .entry) ++ now (edges .entry))) ⌝ }
 {
-    if check::same(paper, &out[start..end]) {
+    let n = steps.len();
+    if paper.len() < n {
+        return Mark::Wrong;
+    }
+    let steps_right = check::same(&paper[..n], steps);
+    let edges_right = check::same(&paper[n..], edges);
+    if steps_right & edges_right {
         return Mark::Right;
     }
     Mark::Wrong
@@ -26,7 +30,13 @@ pub fn mark(sheet: &[u8], paper: &[u8], out: &mut [u8]) -> Mark
     ensures { λ r. ⌜ mark-call r (now (out .exit)) ≡ marked (now (sheet .entry)) (now (paper .entry)) (now (out .entry)) ⌝ }
 {
     match engine::finish(sheet, out) {
-        Answer::Finished(f) => compare(paper, out, f.steps, f.edges),
+        Answer::Finished(f) => {
+            let finished: &[u8] = out;
+            let exprs = f.exprs;
+            let steps = f.steps;
+            let edges = f.edges;
+            compare(paper, &finished[exprs..steps], &finished[steps..edges])
+        }
         Answer::Refused(k) => Mark::Refused(k),
     }
 }

@@ -1,8 +1,10 @@
-//! One sheet finished by the port, and two papers marked against it, held to what the Rust answers.
+//! One sheet finished by the port, and three papers marked against it, held to what the Rust answers.
 use std::fmt::{Debug, Display};
 
 use oracle::run::Stop;
-use simplify_ordering::{Refusal, Verdict, finish_into, mark_into};
+use simplify_ordering::{Refusal, finish_into, mark_into};
+
+use crate::papers::Papers;
 
 /// More than a call asks for, so that bytes behind the least output are seen too.
 pub const LENT: usize = oracle::LEAST_OUTPUT + 512;
@@ -14,37 +16,10 @@ pub fn pattern() -> Vec<u8> {
 
 pub type Expected = Result<Vec<u8>, Stop>;
 
-/// The G lines of the finished sheet; of a sheet that has none, a line that might be one.
-fn right_paper(expected: &Expected) -> Vec<u8> {
-    let Ok(text) = expected else {
-        return b"G,1,0,0\n".to_vec();
-    };
-    text.split_inclusive(|&byte| byte == b'\n').filter(|line| line.starts_with(b"G")).flatten().copied().collect()
-}
-
-/// The paper with an alteration, of which the number chooses one: the bytes differ, so it is wrong.
-fn altered(paper: &[u8], number: u64) -> Vec<u8> {
-    let mut other = paper.to_vec();
-    let place = (number / 8) as usize % paper.len();
-    match number % 8 {
-        0 => other[place] ^= 1,
-        1 => other.truncate(place),
-        2 => other.insert(place, b' '),
-        3 => other.extend_from_slice(b"T,0,0,0\n"),
-        4 => other.extend_from_slice(paper),
-        5 => other.insert(0, b'\n'),
-        6 => other.resize(LENT * 2, b'G'),
-        _ => {
-            other.remove(place);
-        },
-    }
-    other
-}
-
 /// A sheet, and what the Rust answers.
 pub struct Asked<'a> {
     pub name: &'a dyn Display,
-    /// Chooses the alteration of the second paper.
+    /// Chooses what is altered in the papers.
     pub number: u64,
     pub sheet: &'a [u8],
     pub expected: &'a Expected,
@@ -52,14 +27,10 @@ pub struct Asked<'a> {
 }
 
 impl Asked<'_> {
-    /// Are the answer, both marks and the output of each call as they have to be? If not, the first is shown where asked for.
+    /// Are the answer, the marks and the output of each call as they have to be? If not, the first is shown where asked for.
     pub fn all_agree(&self, out: &mut [u8], show: bool) -> bool {
-        let right = right_paper(self.expected);
-        let wrong = altered(&right, self.number);
-
-        self.finishes(out, show)
-            && self.marks(&right, Verdict::Right, out, show)
-            && self.marks(&wrong, Verdict::Wrong, out, show)
+        let papers = Papers::new(self.sheet, self.expected);
+        self.finishes(out, show) && papers.three(self.number).iter().all(|paper| self.marks(&papers, paper, out, show))
     }
 
     fn finishes(&self, out: &mut [u8], show: bool) -> bool {
@@ -69,10 +40,10 @@ impl Asked<'_> {
         self.agrees(answer, length, out, show)
     }
 
-    fn marks(&self, paper: &[u8], verdict: Verdict, out: &mut [u8], show: bool) -> bool {
+    fn marks(&self, papers: &Papers, paper: &[u8], out: &mut [u8], show: bool) -> bool {
         out.copy_from_slice(self.pattern);
         let mark = mark_into(self.sheet, paper, out);
-        let agrees = self.agrees(mark, verdict, out, show);
+        let agrees = self.agrees(mark, papers.verdict(paper), out, show);
         if show && !agrees {
             println!("to the paper\n{}", paper.escape_ascii());
         }

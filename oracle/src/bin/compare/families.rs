@@ -45,7 +45,7 @@ impl Totals {
     fn text(&self, name: &str, seed: u64) -> String {
         let (rust, port) = (each(self.rust, self.timed), each(self.port, self.timed));
         format!(
-            "{name} {seed}: {} sheets compared with two papers each, {} finished, {} differences; Rust {rust:.0} ns a sheet, \
+            "{name} {seed}: {} sheets compared with three papers each, {} finished, {} differences; Rust {rust:.0} ns a sheet, \
              port {port:.0}, ratio {:.2} (CPU time of {} sheets, least of {ROUNDS} rounds)",
             self.compared,
             self.finished,

@@ -1,6 +1,7 @@
 //! The program `compare`: the port and the Rust on the same sheets in one process, compared and timed. compare.sh builds it.
 mod asked;
 mod families;
+mod papers;
 mod turns;
 mod worst;
 
@@ -18,9 +19,10 @@ compare FAMILY SEED COUNT
 compare worst [FOLDER]
 
 Finishes sheets by the port and by the Rust, each from bytes to bytes. Compares the answers and every byte of the output that is
-lent to the port, which is longer than it has to be and filled with a pattern beforehand. Then has the port mark two papers
-against each sheet, the G lines of the Rust's answer and these with an alteration, and compares the marks and the output likewise.
-Shows the first difference whole. The status is 0 if there is none, 1 if there is one, 2 for other words or a folder without plans.
+lent to the port, which is longer than it has to be and filled with a pattern beforehand. Then has the port mark three papers
+against each sheet, the P lines and then the G lines of the Rust's answer, these with one byte changed, and one altered in another
+way, and compares the marks and the output likewise. Shows the first difference whole. The status is 0 if there is none, 1 if
+there is one, 2 for other words or a folder without plans.
 
 With a family: the COUNT sheets of `gen FAMILY SEED COUNT`. One turn of {calls} sheets in {one_of} is finished again to be timed, in
 {rounds} rounds by each side, of which the least counts. Prints how many sheets there were, how many of them are finished, how many

@@ -114,7 +114,7 @@ pub fn compare(folder: &Path) -> io::Result<u64> {
     }
     if let Some(worst) = plans.iter().max_by(|one, other| one.ratio().total_cmp(&other.ratio())) {
         println!(
-            "{} plans compared with two papers each, {different} differences; greatest ratio {:.2}, {} (CPU time, least of {} \
+            "{} plans compared with three papers each, {different} differences; greatest ratio {:.2}, {} (CPU time, least of {} \
              rounds of {TURN} calls)",
             plans.len(),
             worst.ratio(),
