@@ -14,9 +14,11 @@ EDGES = b"G,2,0,0\nG,1,0,0\n"
 TALLY = b"T,1,5,0\n"
 RIGHT = STEPS + EDGES
 
-# the Sort under a Sink that keeps the order: nothing changes
-KEPT = EXPRS + b"P,0,0,0,0,0,0,0\nP,5,1,0,0,1,1,0,0,0\nP,2,1,0,0,1,0,0,1\n"
-KEPT_RIGHT = b"P,0,0,0,0,0,0,0\nP,5,1,0,0,1,1,0,0,0\nP,2,1,0,0,1,0,0,1\nG,2,0,1\nG,1,0,1\n"
+# the Sort under a Sink that keeps the order: no step changes
+KEPT_STEPS = b"P,0,0,0,0,0,0,0\nP,5,1,0,0,1,1,0,0,0\nP,2,1,0,0,1,0,0,1\n"
+KEPT_EDGES = b"G,2,0,1\nG,1,0,1\n"
+KEPT = EXPRS + KEPT_STEPS
+KEPT_RIGHT = KEPT_STEPS + KEPT_EDGES
 
 # a Distinct, First, over a Union that keeps no order: it becomes Any; over a Scan it stays First
 UNION_FIRST = b"P,0,0,0,0,0,0,0\nP,11,0,0,0,1,0,0,0\nP,8,0,0,0,1,0,0,1\nP,2,0,0,0,1,0,0,2\n"
@@ -48,9 +50,11 @@ ALL = [
     Case(KEPT, KEPT_RIGHT, "88 right"),
     Case(LOOSE, KEPT_RIGHT, "88 wrong"),
     Case(KEPT, RIGHT, "88 wrong"),
-    # one block right: another's edges, another's steps
-    Case(LOOSE, STEPS + b"G,2,0,1\nG,1,0,1\n", "88 wrong"),
-    Case(KEPT, b"P,0,0,0,0,0,0,0\nP,5,1,0,0,1,1,0,0,0\nP,2,1,0,0,1,0,0,1\n" + EDGES, "88 wrong"),
+    # one block right: the other's edges, the other's steps
+    Case(LOOSE, STEPS + KEPT_EDGES, "88 wrong"),
+    Case(LOOSE, KEPT_STEPS + EDGES, "88 wrong"),
+    Case(KEPT, KEPT_STEPS + EDGES, "88 wrong"),
+    Case(KEPT, STEPS + KEPT_EDGES, "88 wrong"),
     # the steps as sent, where a sort went: the Sink's line has to name the Sort's input
     Case(LOOSE, LOOSE[len(EXPRS):] + EDGES, "88 wrong"),
     # the same edges with another keep strategy

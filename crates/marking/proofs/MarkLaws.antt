@@ -11,7 +11,7 @@ use Rattle.plan.specs.declared.answer.Answer.{Answer}
 use Rattle.plan.specs.Conditions.{refusal-numbers}
 use Rattle.plan.specs.Finished.{run, finish, called, too-short}
 use Rattle.plan.specs.Lists.{same, concat-map}
-use Rattle.plan.specs.Sheet.{Outcome, refused, done, refuse_when_else_}
+use Rattle.plan.specs.Sheet.{Outcome, refused, done}
 use Rattle.plan.specs.Text.{line, step-line, edge-line, steps-block, edges-block}
 use Rattle.plan.specs.Visit.{Run}
 use Rattle.plan.proofs.ListLaws.{same→eq}

@@ -92,7 +92,7 @@ both-blocks (b ∷ x) = by (eqb b 71) (both-blocks x)
     by true e = refl
     by false e = ap (λ (l : List ℕ). b ∷ l) e
 
--- Blocks of lines, by the numbers that stand on them ------------------------------------------------------------------------------------------------
+-- Blocks of lines, by the numbers that stand on them -----------------------------------------------------------------------------
 
 module _ {A : Type 0} (row : A → List ℕ) where
   pub before-lines : (l : List A) → before-G (concat-map (λ a. line 71 (row a)) l) ≡ []

@@ -29,6 +29,7 @@ unfoldable pub verdict : Bool → Mark
 verdict true = Mark.Right
 verdict false = Mark.Wrong
 
+-- right exactly if the paper's bytes are those of the right paper
 unfoldable pub mark-of : List ℕ → Outcome Run → Mark
 mark-of paper (refused n) = Mark.Refused n
 mark-of paper (done whole) = verdict (same paper (right-paper whole))
