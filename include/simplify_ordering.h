@@ -13,8 +13,8 @@ extern "C" {
 #define SIMPLIFY_ORDERING_LONGEST_SHEET 16384
 #define SIMPLIFY_ORDERING_LEAST_OUTPUT 16384
 
-/* What is answered: 0, or the number of the refusal. The first fault decides, in the order of the numbers; 3, 4 and 5 are
-   looked for line by line. */
+/* What is answered: 0, or the number of the refusal. The first fault decides. They are looked for in the order in which they
+   stand here; 3, 4 and 5 line by line, and so are 8 and 12, in E lines before P lines. */
 enum simplify_ordering_answer {
     SIMPLIFY_ORDERING_FINISHED = 0,          /* the finished sheet stands at the front of the output */
     SIMPLIFY_ORDERING_OUTPUT = 1,            /* the output lent is shorter than the least */
@@ -24,14 +24,16 @@ enum simplify_ordering_answer {
     SIMPLIFY_ORDERING_ROOM = 5,              /* more P lines or more expressions than there is room for */
     SIMPLIFY_ORDERING_NO_STEP = 6,           /* no P line */
     SIMPLIFY_ORDERING_REFERENCE = 7,         /* a child, an input or an expression that may not be named there */
-    SIMPLIFY_ORDERING_USE = 8,               /* a line named too often or by none, or two Cache lines with one id */
+    SIMPLIFY_ORDERING_UNUSED = 8,            /* an E line, or a P line that is no Sink, that nothing names */
+    SIMPLIFY_ORDERING_REUSED = 12,           /* an E line, or a P line neither Sink nor Cache, named more than once */
+    SIMPLIFY_ORDERING_CACHE_ID = 13,         /* two Cache lines with one id */
     SIMPLIFY_ORDERING_STRUCT_FIELD = 9,      /* a StructField outside the evaluation of every StructEval */
     SIMPLIFY_ORDERING_JOIN = 10,             /* the assertions on a Join's keys fail */
     SIMPLIFY_ORDERING_PARTITIONED_SINK = 11  /* the assertions on a partitioned Sink's keys fail */
 };
 
 /* Finishes the sheet. For 0, *finished is the length of the finished sheet, which stands at the front of `out`; the bytes
-   behind it are as they were. For 1 to 11, *finished is 0 and every byte of `out` is as it was.
+   behind it are as they were. For a refusal, *finished is 0 and every byte of `out` is as it was.
    No pointer may be null, not even with a length of 0. `out` and *finished overlap neither each other nor the sheet, and
    nobody else writes to any of the three before the call returns. It keeps no pointer and no state.
    It takes at most 64 KiB of stack. */

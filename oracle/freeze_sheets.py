@@ -22,7 +22,7 @@ from hand_made_sheets import ALL, LONGEST
 
 BIN = pathlib.Path(__file__).resolve().parent / "target" / "release"
 MARK = b"---\n"
-BATCHES = [("valid", 41, 150), ("small", 42, 200), ("limit", 43, 50), ("deep", 44, 60), ("near", 45, 120), ("noise", 46, 60)]
+BATCHES = [("valid", 41, 150), ("small", 42, 200), ("limit", 43, 50), ("deep", 44, 60), ("near", 45, 120), ("noise", 46, 60), ("uses", 47, 120)]
 
 
 def run(name, *words, given=b""):
@@ -84,8 +84,8 @@ def case_parts(sheet, n, answer):
 def counts(cases):
     """How many are finished, and how many refused by each number."""
     found = collections.Counter(number(answer) for _, _, answer in cases)
-    assert sorted(found) == list(range(12))
-    return f"finished: {found[0]}\n" + "".join(f"refused by {n}: {found[n]}\n" for n in range(1, 12))
+    assert sorted(found) == list(range(14))
+    return f"finished: {found[0]}\n" + "".join(f"refused by {n}: {found[n]}\n" for n in range(1, 14))
 
 
 def main():

@@ -189,9 +189,16 @@ FINDINGS = {
     "7: a Sink as input": Case(f"{SCAN}{SINK}0\n{SINK}1\n", "R,7\n"),
     "8: an expression named by none": Case(f"{COLUMN}{SCAN}{SINK}0\n", "R,8\n"),
     "8: a step named by none": Case(f"{SCAN}{SCAN}{SINK}1\n", "R,8\n"),
-    "8: a Scan named twice": Case(f"{SCAN}{SINK}0\n{SINK}0\n", "R,8\n"),
-    "8: an expression named twice": Case(f"{COLUMN}{SCAN}P,3,0,0,0,1,2,0,0,0,0\n{SINK}1\n", "R,8\n"),
-    "8: two Cache lines with one id": Case(f"{SCAN}P,18,5,0,0,1,0,0,0\nP,18,5,0,0,1,0,0,0\n{SINK}1\n{SINK}2\n", "R,8\n"),
+    "12: a Scan named twice": Case(f"{SCAN}{SINK}0\n{SINK}0\n", "R,12\n"),
+    "12: an expression named twice": Case(f"{COLUMN}{SCAN}P,3,0,0,0,1,2,0,0,0,0\n{SINK}1\n", "R,12\n"),
+    "12: two Cache lines with one id over one Scan": Case(f"{SCAN}P,18,5,0,0,1,0,0,0\nP,18,5,0,0,1,0,0,0\n{SINK}1\n{SINK}2\n", "R,12\n"),
+    "13: two Cache lines with one id, one over the other": Case(f"{SCAN}P,18,5,0,0,1,0,0,0\nP,18,5,0,0,1,0,0,1\n{SINK}2\n", "R,13\n"),
+    "13: two Cache lines with one id over two Scans": Case(
+        f"{SCAN}{SCAN}P,18,5,0,0,1,0,0,0\nP,18,5,0,0,1,0,0,1\n{SINK}2\n{SINK}3\n", "R,13\n"
+    ),
+    "13: two Cache lines with one id over a Cache": Case(
+        f"{SCAN}P,18,6,0,0,1,0,0,0\nP,18,5,0,0,1,0,0,1\nP,18,5,0,0,1,0,0,1\n{SINK}2\n{SINK}3\n", "R,13\n"
+    ),
     "9: a StructField that is never looked at": Case(A.replace(COLUMN, "E,3,0,1,0\n"), "R,9\n"),
     "First goes on without its order": Case(select(KEY.replace("E,22,1,0,0,4\n", ""), SINK), f"{COLUMN}{COLUMN}E,3,"),
     "a SortBy goes on the second visit": Case(select(f"{COLUMN}E,9,0,0,0,0\nE,10,0,1,0,1\n", SINK), f"{COLUMN * 3}{SCAN}"),

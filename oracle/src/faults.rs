@@ -1,14 +1,15 @@
-//! The faults of a sheet whose lines are each in order: references (7), uses (8) and struct fields (9).
+//! The faults of a sheet whose lines are each in order: references (7), uses (8, 12), ids (13) and struct fields (9).
 use crate::kinds::{expr, step};
-use crate::refusals::{REFERENCE, STRUCT_FIELD, USE};
+use crate::refusals::{CACHE_ID, REFERENCE, REUSED, STRUCT_FIELD, UNUSED};
 use crate::sheet::Sheet;
 
 pub fn check(sheet: &Sheet) -> Result<(), u8> {
     if !references_fit(sheet) {
         return Err(REFERENCE);
     }
-    if !uses_fit(sheet) {
-        return Err(USE);
+    check_uses(sheet)?;
+    if !ids_differ(sheet) {
+        return Err(CACHE_ID);
     }
     if !struct_fields_fit(sheet) {
         return Err(STRUCT_FIELD);
@@ -32,8 +33,9 @@ fn references_fit(sheet: &Sheet) -> bool {
     children_fit && steps_fit
 }
 
-/// Each expression is named once; each step but a Sink is named, and once only unless it is a Cache; ids differ.
-fn uses_fit(sheet: &Sheet) -> bool {
+/// Each expression is named once; each step but a Sink is named, and once only unless it is a Cache. The first line that is
+/// not decides, expressions before steps.
+fn check_uses(sheet: &Sheet) -> Result<(), u8> {
     let mut expr_uses = vec![0; sheet.exprs.len()];
     let children = sheet.exprs.iter().flat_map(|line| line.children.iter().copied());
     let entries = sheet.steps.iter().flat_map(|line| line.all_exprs());
@@ -46,18 +48,29 @@ fn uses_fit(sheet: &Sheet) -> bool {
         step_uses[usize::from(*input)] += 1;
     }
 
-    let steps_fit = sheet.steps.iter().zip(step_uses).all(|(line, uses)| match line.kind {
-        step::SINK => true,
-        step::CACHE => uses >= 1,
-        _ => uses == 1,
-    });
+    expr_uses.into_iter().try_for_each(once)?;
+    sheet.steps.iter().zip(step_uses).try_for_each(|(line, uses)| match line.kind {
+        step::SINK => Ok(()),
+        step::CACHE => once(uses.min(1)),
+        _ => once(uses),
+    })
+}
 
+fn once(uses: usize) -> Result<(), u8> {
+    match uses {
+        0 => Err(UNUSED),
+        1 => Ok(()),
+        _ => Err(REUSED),
+    }
+}
+
+/// No two Cache lines have one id.
+fn ids_differ(sheet: &Sheet) -> bool {
     let mut ids: Vec<u8> = sheet.steps.iter().filter(|line| line.kind == step::CACHE).map(|line| line.a).collect();
     let caches = ids.len();
     ids.sort_unstable();
     ids.dedup();
-
-    expr_uses.iter().all(|&uses| uses == 1) && steps_fit && ids.len() == caches
+    ids.len() == caches
 }
 
 /// Going up from each StructField, a StructEval is entered through an evaluation child.

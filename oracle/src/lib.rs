@@ -34,14 +34,14 @@ pub fn try_finish(sheet: &[u8], out_len: usize) -> Result<Vec<u8>, Stop> {
     Ok(run::run(&sheet)?.text())
 }
 
-/// The sheet's lines, if none of the refusals 1 to 9 meets it.
+/// The sheet's lines, if no refusal that can be seen without the walks meets it.
 pub fn checked(bytes: &[u8], out_len: usize) -> Result<sheet::Sheet, u8> {
     let sheet = unchecked(bytes, out_len)?;
     faults::check(&sheet)?;
     Ok(sheet)
 }
 
-/// The sheet's lines, if none of the refusals 1 to 6 meets it: 7, 8 and 9 are left out, for which the Rust has no checks.
+/// The sheet's lines, if none of the refusals 1 to 6 meets it: 7 to 9, 12 and 13 are left out, for which the Rust has no checks.
 pub fn unchecked(bytes: &[u8], out_len: usize) -> Result<sheet::Sheet, u8> {
     if out_len < LEAST_OUTPUT {
         return Err(refusals::OUTPUT);

@@ -2,7 +2,8 @@
 use std::error::Error;
 use std::fmt;
 
-/// Why a sheet has no finished sheet. The first fault decides, in the order of the numbers; 3, 4 and 5 are looked for line by line.
+/// Why a sheet has no finished sheet. The first fault decides. They are looked for in the order in which they stand here; 3, 4 and 5
+/// line by line, and so are 8 and 12, in E lines before P lines.
 /// More numbers may come, and they need not be the next ones.
 #[derive(Clone, Copy, Debug, PartialEq, Eq, Hash)]
 #[repr(u8)]
@@ -22,8 +23,12 @@ pub enum Refusal {
     NoStep = 6,
     /// A child, an input or an expression that may not be named there.
     Reference = 7,
-    /// A line named too often or by none, or two Cache lines with one id.
-    Use = 8,
+    /// An E line, or a P line that is no Sink, that nothing names.
+    Unused = 8,
+    /// An E line, or a P line neither Sink nor Cache, named more than once.
+    Reused = 12,
+    /// Two Cache lines with one id.
+    CacheId = 13,
     /// A StructField outside the evaluation of every StructEval.
     StructField = 9,
     /// The assertions on a Join's keys fail.
@@ -33,7 +38,7 @@ pub enum Refusal {
 }
 
 impl Refusal {
-    /// Every refusal, in the order of the numbers.
+    /// Every refusal, in the order in which they are looked for.
     pub const ALL: &'static [Refusal] = &[
         Refusal::Output,
         Refusal::Length,
@@ -42,7 +47,9 @@ impl Refusal {
         Refusal::Room,
         Refusal::NoStep,
         Refusal::Reference,
-        Refusal::Use,
+        Refusal::Unused,
+        Refusal::Reused,
+        Refusal::CacheId,
         Refusal::StructField,
         Refusal::Join,
         Refusal::PartitionedSink,
@@ -67,7 +74,9 @@ impl Refusal {
             Refusal::Room => "there are too many lines",
             Refusal::NoStep => "there is no P line",
             Refusal::Reference => "a line names what it may not name",
-            Refusal::Use => "a line is named too often or by none, or two Cache lines have one id",
+            Refusal::Unused => "a line is named by none",
+            Refusal::Reused => "a line is named more than once",
+            Refusal::CacheId => "two Cache lines have one id",
             Refusal::StructField => "a StructField is outside of every StructEval",
             Refusal::Join => "a Join's keys are not row by row",
             Refusal::PartitionedSink => "the keys of a partitioned Sink are not row by row",

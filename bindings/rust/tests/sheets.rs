@@ -40,7 +40,9 @@ fn refused_sheet(refusal: Refusal) -> Vec<u8> {
         Refusal::Room => scan.repeat(33),
         Refusal::NoStep => String::new(),
         Refusal::Reference => format!("{}{scan}", sink(1)),
-        Refusal::Use => format!("{scan}{}{}", sink(0), sink(0)),
+        Refusal::Unused => format!("{scan}{scan}{}", sink(0)),
+        Refusal::Reused => format!("{scan}{}{}", sink(0), sink(0)),
+        Refusal::CacheId => format!("{scan}P,18,5,0,0,1,0,0,0\nP,18,5,0,0,1,0,0,1\n{}", sink(2)),
         Refusal::StructField => format!("E,3,0,1,0\n{scan}P,3,0,0,0,1,1,0,0,0\n{}", sink(1)),
         Refusal::Join => format!("E,0,0,1,0\nE,8,0,0,0,0\n{scan}{scan}P,9,0,0,0,2,1,0,0,1,1\n{}", sink(2)),
         Refusal::PartitionedSink => format!("E,0,0,1,0\nE,8,0,0,0,0\n{scan}P,2,1,1,0,1,1,0,0,1\n"),
@@ -116,7 +118,7 @@ fn an_empty_output_and_an_empty_sheet() {
 #[test]
 fn refusals_by_number() {
     let numbers: Vec<u8> = Refusal::ALL.iter().map(|refusal| refusal.number()).collect();
-    assert_eq!(numbers, [1, 2, 3, 4, 5, 6, 7, 8, 9, 10, 11]);
+    assert_eq!(numbers, [1, 2, 3, 4, 5, 6, 7, 8, 12, 13, 9, 10, 11]);
     for &refusal in Refusal::ALL {
         assert_eq!(Refusal::of_number(refusal.number()), Some(refusal));
     }

@@ -30,7 +30,7 @@ fn agrees(
     sheet: &[u8],
     asked: &[u8],
     told: &[u8],
-    answers: &mut [u64; 13],
+    answers: &mut [u64; 256],
 ) -> bool {
     match folder {
         Folder::Reading => crate::read::agrees(sheet, asked, told),
@@ -42,7 +42,7 @@ fn agrees(
 }
 
 // Is the case whose parts stand in the buffer whole, and does it agree?
-fn case_agrees(folder: Folder, c: Parts, buf: &[u8], answers: &mut [u64; 13]) -> bool
+fn case_agrees(folder: Folder, c: Parts, buf: &[u8], answers: &mut [u64; 256]) -> bool
     requires { ⌜ Within c (now buf) ⌝ }
 {
     if !c.whole {
@@ -61,7 +61,7 @@ fn case_agrees(folder: Folder, c: Parts, buf: &[u8], answers: &mut [u64; 13]) ->
 }
 
 // A proved loop has to end, and nothing says that a file does: it stops at 100,000 cases.
-fn run_all(fd: i32, folder: Folder, answers: &mut [u64; 13]) -> Score {
+fn run_all(fd: i32, folder: Folder, answers: &mut [u64; 256]) -> Score {
     let mut s = Score {
         all: 0,
         agree: 0,
@@ -78,7 +78,7 @@ fn run_all(fd: i32, folder: Folder, answers: &mut [u64; 13]) -> Score {
     s
 }
 
-fn run_folder(name: &[u8], path: &[u8], folder: Folder, answers: &mut [u64; 13]) {
+fn run_folder(name: &[u8], path: &[u8], folder: Folder, answers: &mut [u64; 256]) {
     let fd = os::open_read(path);
     if fd < 0 {
         os::fail(path);
@@ -90,7 +90,7 @@ fn run_folder(name: &[u8], path: &[u8], folder: Folder, answers: &mut [u64; 13])
 }
 
 fn main() {
-    let mut answers: [u64; 13] = [0; 13];
+    let mut answers: [u64; 256] = [0; 256];
     run_folder(b"reading", b"reading/cases", Folder::Reading, &mut answers);
     run_folder(b"graph", b"graph/cases", Folder::Graph, &mut answers);
     run_folder(b"lists", b"lists/cases", Folder::Lists, &mut answers);

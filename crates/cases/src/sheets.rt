@@ -65,18 +65,13 @@ fn right(answer: Answer, number: u8, finished: &[u8], out: &[u8]) -> bool {
     }
 }
 
-// The answer's number, 0 for a finished sheet; 12 for a number that document 01 does not have.
+// The answer's number, 0 for a finished sheet.
 fn number_of(answer: Answer) -> usize
-    ensures { λ r. ⌜ r < 13 ⌝ }
+    ensures { λ r. ⌜ r < 256 ⌝ }
 {
     match answer {
         Answer::Finished(f) => 0,
-        Answer::Refused(k) => {
-            if k < 12 {
-                return wide(k);
-            }
-            12
-        }
+        Answer::Refused(k) => wide(k),
     }
 }
 
@@ -86,7 +81,7 @@ fn call_agrees(
     number: u8,
     finished: &[u8],
     out: &mut [u8],
-    answers: &mut [u64; 13],
+    answers: &mut [u64; 256],
 ) -> bool {
     let answer = engine::finish(sheet, out);
     let k = number_of(answer);
@@ -94,7 +89,7 @@ fn call_agrees(
     right(answer, number, finished, out)
 }
 
-pub(crate) fn agrees(sheet: &[u8], asked: &[u8], told: &[u8], answers: &mut [u64; 13]) -> bool {
+pub(crate) fn agrees(sheet: &[u8], asked: &[u8], told: &[u8], answers: &mut [u64; 256]) -> bool {
     if asked.len() != 2 {
         return false;
     }
@@ -109,7 +104,11 @@ pub(crate) fn agrees(sheet: &[u8], asked: &[u8], told: &[u8], answers: &mut [u64
     call_agrees(sheet, told[0], &told[1..], &mut out[..lent], answers)
 }
 
+// A number that was not answered is passed over.
 fn report_refused(number: u64, count: u64) {
+    if count == 0 {
+        return;
+    }
     io::write_all(STDOUT_FILENO, b"refused by ");
     io::print_decimal(STDOUT_FILENO, number);
     io::write_all(STDOUT_FILENO, b": ");
@@ -117,12 +116,12 @@ fn report_refused(number: u64, count: u64) {
     io::write_all(STDOUT_FILENO, b"\n");
 }
 
-pub(crate) fn report_answers(answers: &[u64; 13]) {
+pub(crate) fn report_answers(answers: &[u64; 256]) {
     io::write_all(STDOUT_FILENO, b"finished: ");
     io::print_decimal(STDOUT_FILENO, answers[0]);
     io::write_all(STDOUT_FILENO, b"\n");
     let mut i: usize = 1;
-    while i < 12 {
+    while i < 256 {
         report_refused(i as u64, answers[i]);
         i += 1;
     }

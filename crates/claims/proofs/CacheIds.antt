@@ -28,4 +28,4 @@ module _ (sh : Sheet) (w : WellFormed sh) where
 
       by : Dec (m ≡ n) → m ≡ n
       by (yes h) = h
-      by (no h) = absurd (ids-right ps (n, step-at ps n) there (of-all (id-right ps) (numbered 0 ps) (w .ids) (n, step-at ps n) there) (Shares-id.cache d h c e))
+      by (no h) = absurd (ids-right ps (n, step-at ps n) there (of-all (id-right ps) (numbered 0 ps) (w .tested .ids) (n, step-at ps n) there) (Shares-id.cache d h c e))

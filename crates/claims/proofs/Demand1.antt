@@ -105,11 +105,11 @@ run-printed s r e = ap (λ (o : Outcome Run). o then λ x. done (printed x)) e
 -- Demand 1 --------------------------------------------------------------------------------------------------------------------------------
 
 -- the list, as far as sums and tests want it
-pub number-range : (n : ℕ) → List·Memᴰ n refusal-numbers → (1 ≤ n) × (n ≤ 11)
+pub number-range : (n : ℕ) → List·Memᴰ n refusal-numbers → (1 ≤ n) × (n ≤ 13)
 unfolding all?
 number-range n m =
-    let t = of-all (λ k. leb 1 k && leb k 11) refusal-numbers tt n m in
-    (leb→le 1 n (and-left (leb 1 n) (leb n 11) t), leb→le n 11 (and-right (leb 1 n) (leb n 11) t))
+    let t = of-all (λ k. leb 1 k && leb k 13) refusal-numbers tt n m in
+    (leb→le 1 n (and-left (leb 1 n) (leb n 13) t), leb→le n 13 (and-right (leb 1 n) (leb n 13) t))
 
 module _ (s output : List ℕ) where
   comes-to : (o : Outcome Run) → outcome s output ≡ o → finish s output ≡ called output o

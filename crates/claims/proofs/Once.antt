@@ -80,7 +80,7 @@ module _ (sh : Sheet) (wf : WellFormed sh) where
           record {
             earlier =
                 λ c m.
-                leb→le (suc c) p (of-all (λ q. ltb q p) (expr-at (sh .exprs) p .children) (expr-passes (references-right sh) sh (wf .references) p h) c m);
+                leb→le (suc c) p (of-all (λ q. ltb q p) (expr-at (sh .exprs) p .children) (expr-passes (references-right sh) sh (wf .tested .references) p h) c m);
             input = sort-has-input (expr-at (sh .exprs) p) (all-at in-expr-table (sh .exprs) no-expr (wf .exprs-in-table) p h);
           }
       by (no n) = subst (Fits p) (sym (List·getD-eq-default (sh .exprs) no-expr (omega arith))) (nothing-fits p)
@@ -91,7 +91,7 @@ module _ (sh : Sheet) (wf : WellFormed sh) where
       let x : ℕ × Step = (n, step-at (sh .steps) n) in
       leb→le (suc q) (length (sh .exprs))
       (of-all (λ q. ltb q (length (sh .exprs))) (entries (step-at (sh .steps) n))
-      (and-right (inputs-earlier sh x) (exprs-there sh x) (step-passes (references-right sh) sh (wf .references) n h)) q m)
+      (and-right (inputs-earlier sh x) (exprs-there sh x) (step-passes (references-right sh) sh (wf .tested .references) n h)) q m)
 
   named-inside : (m : ℕ) → List·Memᴰ m (exprs-named sh) → m < length (sh .exprs)
   unfolding exprs-named
@@ -105,7 +105,7 @@ module _ (sh : Sheet) (wf : WellFormed sh) where
 
   pub named-once : (i : ℕ) → i < length (sh .exprs) → times i (exprs-named sh) ≡ 1
   unfolding named-right
-  named-once i h = eqb→eq (times i (exprs-named sh)) 1 (expr-passes (named-right sh) sh (wf .uses) i h)
+  named-once i h = eqb→eq (times i (exprs-named sh)) 1 (expr-passes (named-right sh) sh (wf .tested .uses) i h)
 
   pub once-at-start : Once (sh .exprs) (sh .steps)
   unfolding exprs-named

@@ -1,4 +1,4 @@
--- The plan of a well-formed sheet: how often its steps are named (refusals 7 and 8).
+-- The plan of a well-formed sheet: how often its steps are named (refusals 7, 8, 12 and 13).
 use mathlib.Core.Path.{_≡_, refl, ap, sym, _∙_, subst}
 use mathlib.Core.Logic.{inl, _≢_}
 use Prim.Native.Nat.{ℕ, zero, suc, _+_, _≤_, _<_}
@@ -94,7 +94,7 @@ module _ (sh : Sheet) (w : WellFormed sh) where
 
   inputs-all : (n : ℕ) → n < length ps → T (inputs-earlier sh (n, step-at ps n))
   unfolding references-right
-  inputs-all n h = and-left (inputs-earlier sh (n, step-at ps n)) (exprs-there sh (n, step-at ps n)) (step-passes (references-right sh) sh (w .references) n h)
+  inputs-all n h = and-left (inputs-earlier sh (n, step-at ps n)) (exprs-there sh (n, step-at ps n)) (step-passes (references-right sh) sh (w .tested .references) n h)
 
   -- an input is an earlier step, and no Sink
   pub input-right : (n m : ℕ) → List·Memᴰ m (step-at ps n .inputs) → (m < length ps) × (m < n) × (same-ir (step-at ps m .kind) IR.Sink ≡ false)
@@ -122,7 +122,7 @@ module _ (sh : Sheet) (w : WellFormed sh) where
 
   used-right : (n : ℕ) → n < length ps → T (use-right (step-at ps n .kind) (times n (named ps)))
   unfolding named-right
-  used-right n h = step-passes (named-right sh) sh (w .uses) n h
+  used-right n h = step-passes (named-right sh) sh (w .tested .uses) n h
 
   once-named : (n : ℕ) → T (not (is-cache ps n)) → times n (sinks ps) + times n (named ps) ≤ 1
   once-named n h = by (decLt n (length ps))

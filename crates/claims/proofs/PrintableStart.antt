@@ -90,7 +90,7 @@ module _ (sh : Sheet) (wf : WellFormed sh) where
   unfolding references-right
   inputs-right n h =
       let x : ℕ × Step = (n, step-at (sh .steps) n) in
-      and-left (inputs-earlier sh x) (exprs-there sh x) (step-passes (references-right sh) sh (wf .references) n h)
+      and-left (inputs-earlier sh x) (exprs-there sh x) (step-passes (references-right sh) sh (wf .tested .references) n h)
 
   slim-at-start : Every Slim no-expr (sh .exprs)
   slim-at-start =

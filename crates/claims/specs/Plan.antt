@@ -1,4 +1,4 @@
--- What the graph rests on: the steps of a plan, as refusals 7 and 8 leave them.
+-- What the graph rests on: the steps of a plan, as refusals 7, 8, 12 and 13 leave them.
 use mathlib.Core.Path.{_≡_}
 use mathlib.Core.Logic.{_⊎_}
 use Prim.Native.Nat.{ℕ, _+_, _≤_, _<_}

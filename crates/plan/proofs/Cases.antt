@@ -1,4 +1,4 @@
--- The cases A to J of document 01: a table, one test that computes, and one law that makes of each row an equation.
+-- The cases A to J of document 01 and some of uses and ids: a table, one test that computes, and one law that makes of each row an equation.
 use mathlib.Core.Path.{_≡_, ap}
 use Prim.Native.Nat.{ℕ}
 use Prim.Native.String.{String, [] as []ˢ, _∷_ as _∷ˢ_}
@@ -75,6 +75,14 @@ table =
       "E,0,0,1,0\nE,8,0,0,0,0\nP,0,0,0,0,0,0,0\nP,0,0,0,0,0,0,0\nP,9,0,0,0,2,1,0,0,1,1\nP,2,0,0,0,1,0,0,2\n",
       refused 10,
     )
+    -- 12 and 8 by the first line: an E line used twice before one unused, and the other way round
+    ∷ ("E,0,0,1,0\nE,0,0,1,0\nP,0,0,0,0,0,0,0\nP,3,0,0,0,1,2,0,0,0,0\nP,2,0,0,0,1,0,0,1\n", refused 12)
+    ∷ ("E,0,0,1,0\nE,0,0,1,0\nP,0,0,0,0,0,0,0\nP,3,0,0,0,1,2,0,0,1,1\nP,2,0,0,0,1,0,0,1\n", refused 8)
+    -- an unused E line before a Scan used twice
+    ∷ ("E,0,0,1,0\nP,0,0,0,0,0,0,0\nP,2,0,0,0,1,0,0,0\nP,2,0,0,0,1,0,0,0\n", refused 8)
+    -- two Cache lines with one id over one Scan; one over the other, beside a StructField
+    ∷ ("P,0,0,0,0,0,0,0\nP,18,5,0,0,1,0,0,0\nP,18,5,0,0,1,0,0,0\nP,2,0,0,0,1,0,0,1\nP,2,0,0,0,1,0,0,2\n", refused 12)
+    ∷ ("E,3,0,1,0\nP,0,0,0,0,0,0,0\nP,18,5,0,0,1,0,0,0\nP,18,5,0,0,1,0,0,1\nP,3,0,0,0,1,1,0,2,0\nP,2,0,0,0,1,0,0,3\n", refused 13)
     ∷ []
 
 -- in bytes

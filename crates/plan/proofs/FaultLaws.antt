@@ -1,60 +1,69 @@
--- A pass of `checked` that gives one number, and the test of one line.
+-- The number that a pass of `checked` comes to, and the test of one line.
 use mathlib.Core.Path.{_≡_, refl, ap, ap₂, sym, _∙_, subst}
-use mathlib.Core.Logic.{_⊎_, inl, inr}
+use mathlib.Core.Logic.{_≢_}
 use Prim.Native.Nat.{ℕ, zero, suc, _<_}
-use mathlib.Core.Bool.{Bool, true, false, _&&_, not, and-assoc}
-use mathlib.Core.List.{List, [], _∷_, _++_, map}
-use lib.Dec.{T, T-not, eqb}
+use mathlib.Core.Bool.{Bool, true, false, _&&_, and-assoc}
+use mathlib.Core.List.{List, [], _∷_, _++_, map, map-append, map-map}
+use lib.Dec.{T, eqb, eqb·suc-zero}
 use lib.ListN.{length}
 use Rattle.plan.specs.Lists.{if_then_else_, all?, numbered}
 use Rattle.plan.specs.Sheet.{Sheet, no-expr, no-step, expr-at, step-at}
 use Rattle.plan.specs.Faults.{Indexed, lines, first-fault}
 use Rattle.plan.proofs.ListLaws.{and-left, and-right}
-use Rattle.plan.proofs.Booleans.{equal, entry-at}
+use Rattle.plan.proofs.Booleans.{entry-at}
 
-module _ {A : Type 0} (right : A → Bool) (k : ℕ) (number : T (not (eqb k 0))) where
-  abbrev pub fault : A → ℕ
-  fault x = if right x then 0 else k
+-- of two lists of numbers the first decides, unless it has none
+pub first-of-two : (ns ms : List ℕ) → first-fault (ns ++ ms) ≡ (if eqb (first-fault ns) 0 then first-fault ms else first-fault ns)
+unfolding first-fault
+first-of-two [] ms = refl
+first-of-two (zero ∷ ns) ms = first-of-two ns ms
+first-of-two (suc n ∷ ns) ms = rw (eqb·suc-zero n)
 
-  pub one-number : (l : List A) (later : List ℕ) → first-fault (map fault l ++ later) ≡ (if all? right l then first-fault later else k)
-  unfolding first-fault all?
-  one-number [] later = refl
-  one-number (x ∷ l) later = by (right x) (one-number l later)
-    where
-      faulty : (k : ℕ) (ns : List ℕ) → T (not (eqb k 0)) → first-fault (k ∷ ns) ≡ k
-      faulty zero ns t = absurd t
-      faulty (suc k) ns t = refl
+pub first-given : (k : ℕ) (ns : List ℕ) → k ≢ 0 → first-fault (k ∷ ns) ≡ k
+unfolding first-fault
+first-given zero ns h = absurd (h refl)
+first-given (suc k) ns h = refl
 
-      by : (b : Bool) → first-fault (map fault l ++ later) ≡ (if all? right l then first-fault later else k)
-          → first-fault ((if b then 0 else k) ∷ (map fault l ++ later)) ≡ (if b && all? right l then first-fault later else k)
-      by true e = e
-      by false e = faulty k (map fault l ++ later) number
+-- a pass gives nothing exactly if all its lines pass their test
+pub all-right-is : {A : Type 0} (right : A → Bool) (number : A → ℕ) → ((x : A) → number x ≢ 0) → (l : List A)
+    → all? right l ≡ eqb (first-fault (map (λ x. if right x then 0 else number x) l)) 0
+unfolding first-fault all?
+all-right-is right number given [] = refl
+all-right-is {A} right number given (x ∷ l) = by (right x) (number x) (given x) (all-right-is right number given l)
+  where
+    later : List ℕ
+    later = map (λ (y : A). if right y then 0 else number y) l
 
-  module _ (l : List A) (later : List ℕ) where
-    -- it gave its number, or all its lines passed
-    pub pass-came : {n : ℕ} → first-fault (map fault l ++ later) ≡ n → ((k ≡ n) × T (not (all? right l))) ⊎ (T (all? right l) × (first-fault later ≡ n))
-    pass-came {n} e = by (all? right l) (sym (one-number l later) ∙ e)
-      where
-        by : (b : Bool) → (if b then first-fault later else k) ≡ n → ((k ≡ n) × T (not b)) ⊎ (T b × (first-fault later ≡ n))
-        by true e = inr (tt, e)
-        by false e = inl (e, tt)
+    by : (b : Bool) (k : ℕ) → k ≢ 0 → all? right l ≡ eqb (first-fault later) 0 → (b && all? right l) ≡ eqb (first-fault ((if b then 0 else k) ∷ later)) 0
+    by true k h e = e
+    by false zero h e = absurd (h refl)
+    by false (suc k) h e = sym (eqb·suc-zero k)
 
-    pub pass-none : first-fault (map fault l ++ later) ≡ 0 → T (all? right l) × (first-fault later ≡ 0)
-    pass-none e = elim (pass-came e) [ inl (z, _) ↦ absurd (T-not (eqb k 0) number (equal k 0 z)) | inr t ↦ t ]
+-- a pass that gives one number
+pub one-number : {A : Type 0} (right : A → Bool) (k : ℕ) → k ≢ 0 → (l : List A) (later : List ℕ)
+    → first-fault (map (λ x. if right x then 0 else k) l ++ later) ≡ (if all? right l then first-fault later else k)
+unfolding first-fault all?
+one-number right k h [] later = refl
+one-number {A} right k h (x ∷ l) later = by (right x) (one-number right k h l later)
+  where
+    rest : List ℕ
+    rest = map (λ (y : A). if right y then 0 else k) l ++ later
 
-    pub pass-stops : T (not (all? right l)) → first-fault (map fault l ++ later) ≡ k
-    pass-stops t = one-number l later ∙ by (all? right l) t
-      where
-        by : (b : Bool) → T (not b) → (if b then first-fault later else k) ≡ k
-        by true t = absurd t
-        by false t = refl
+    by : (b : Bool) → first-fault rest ≡ (if all? right l then first-fault later else k)
+        → first-fault ((if b then 0 else k) ∷ rest) ≡ (if b && all? right l then first-fault later else k)
+    by true e = e
+    by false e = first-given k rest h
 
-    pub pass-goes : T (all? right l) → first-fault (map fault l ++ later) ≡ first-fault later
-    pass-goes t = one-number l later ∙ by (all? right l) t
-      where
-        by : (b : Bool) → T b → (if b then first-fault later else k) ≡ first-fault later
-        by true t = refl
-        by false t = absurd t
+-- a pass over all lines: the E lines decide, unless they have no fault
+pub over-both : (f : Indexed → ℕ) (sh : Sheet)
+    → let exprs = first-fault (map (λ x. f (Indexed.expr x)) (numbered 0 (sh .exprs))) in
+    first-fault (map f (lines sh)) ≡ (if eqb exprs 0 then first-fault (map (λ x. f (Indexed.step x)) (numbered 0 (sh .steps))) else exprs)
+unfolding lines
+over-both f sh =
+    ap first-fault
+    (map-append f (map Indexed.expr (numbered 0 (sh .exprs))) (map Indexed.step (numbered 0 (sh .steps)))
+    ∙ ap₂ (λ a b. a ++ b) (map-map f Indexed.expr (numbered 0 (sh .exprs))) (map-map f Indexed.step (numbered 0 (sh .steps))))
+    ∙ first-of-two (map (λ x. f (Indexed.expr x)) (numbered 0 (sh .exprs))) _
 
 -- The test of one line -------------------------------------------------------------------------------------------------------
 

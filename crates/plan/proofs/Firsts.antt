@@ -2,7 +2,7 @@
 use mathlib.Core.Path.{refl, ap, sym, subst}
 use mathlib.Core.Logic.{inl, inr}
 use mathlib.Core.Bool.{Bool, true, false, _&&_, not}
-use mathlib.Core.List.{List, [], _∷_, List·Memᴰ, List·Memᴰ·head, List·Memᴰ·tail, List·Memᴰ·not-nil, List·Memᴰ·cases-cons, Memᴰ·append-right}
+use mathlib.Core.List.{List, [], _∷_, List·Memᴰ, List·Memᴰ·head, List·Memᴰ·tail, List·Memᴰ·not-nil, List·Memᴰ·cases-cons, Memᴰ·append-left, Memᴰ·append-right}
 use lib.Dec.{T, not-T}
 use Rattle.plan.specs.Lists.{all?}
 use Rattle.plan.specs.Conditions.{None, First}
@@ -50,12 +50,19 @@ module _ {A : Type 0} (right : A → Bool) (Wrong : A → Type 0) where
     pub none-wrong : T (all? right l) → None Wrong l
     none-wrong t x m = k .passes x m (of-all right l t x m)
 
-    pub not-all : (x : A) → First Wrong l x → T (not (all? right l))
-    not-all x f = not-T (all? right l) (λ t. none-wrong t x (member l x f) (f .wrong))
-
     pub all-right : None Wrong l → T (all? right l)
     all-right n = by (all? right l) (λ t. first-wrong l k t)
       where
         by : (b : Bool) → (T (not b) → (x : A) × First Wrong l x) → T b
         by true f = tt
         by false f = let (x, first) = f tt in absurd (n x (member l x first) (first .wrong))
+
+    -- the first wrong entry and those before it, as the test has them
+    pub first-fails : (x : A) → First Wrong l x → T (not (right x))
+    first-fails x f = not-T (right x) (λ t. k .passes x (member l x f) t (f .wrong))
+
+  pub before-passes : (l : List A) → Tells l → (x : A) (f : First Wrong l x) → T (all? right (f .before))
+  before-passes l k x f = all-right (f .before) (record { fails = λ y m. k .fails y (there y m); passes = λ y m. k .passes y (there y m) }) (f .right)
+    where
+      there : (y : A) → List·Memᴰ y (f .before) → List·Memᴰ y l
+      there y m = subst (λ (z : List A). List·Memᴰ y z) (sym (f .split)) (Memᴰ·append-left (x ∷ f .after) m)

@@ -8,6 +8,7 @@ pub mod Decimals
 pub mod Settling
 pub mod FaultLaws
 pub mod Firsts
+pub mod Passes
 pub mod LineFaults
 pub mod Conditions
 pub mod TurnedBack

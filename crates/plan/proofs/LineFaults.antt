@@ -1,4 +1,4 @@
--- The tests behind 7, 8 and 9 against their conditions: a line that fails its test is wrong, and one that passes it is not.
+-- The tests behind 7, 8 and 12, 13 and 9 against their conditions: a line that fails its test is wrong, and one that passes it is not.
 use mathlib.Core.Path.{_≡_, refl, ap, sym, _∙_, subst}
 use mathlib.Core.Logic.{_⊎_, inl, inr, _≢_}
 use Prim.Native.Nat.{ℕ, zero, suc, _+_, _≤_, _<_}
@@ -13,7 +13,7 @@ use Rattle.plan.specs.declared.ir.IR.{IR}
 use Rattle.plan.specs.Kinds.{same-aexpr, same-ir, ir-number, aexpr-number}
 use Rattle.plan.specs.Lists.{if_then_else_, all?, sum, select, concat-map, numbered, among, times, rest}
 use Rattle.plan.specs.Sheet.{Expr, Step, Sheet, no-expr, no-step, expr-at, step-at}
-use Rattle.plan.specs.Faults.{Indexed, children-earlier, inputs-earlier, exprs-there, references-right, exprs-named, named, named-right, cache-ids, id-right, tree, evaluated, field-right}
+use Rattle.plan.specs.Faults.{Indexed, children-earlier, inputs-earlier, exprs-there, references-right, exprs-named, named, uses, named-right, use-number, cache-ids, id-right, tree, evaluated, field-right}
 use Rattle.plan.specs.Conditions.{Refers-wrong, Unnamed, Named-often, Named-wrong, Shares-id, Evaluated, Field-outside}
 use Rattle.plan.proofs.ListLaws.{and-left, and-right, of-all}
 use Rattle.plan.proofs.Booleans.{and-both, equal}
@@ -96,7 +96,11 @@ module _ (sh : Sheet) where
       let v = ltb→lt q (length (sh .exprs)) u in
       omega arith
 
--- 8 ----------------------------------------------------------------------------------------------------------------------------
+-- 8 and 12 ---------------------------------------------------------------------------------------------------------------------
+
+more : (k : ℕ) → 1 < k → use-number k ≡ 12
+more zero h = absurd (omega arith)
+more (suc k) h = refl
 
 never-or-often : (k : ℕ) → T (not (eqb k 1)) → (k ≡ 0) ⊎ (1 < k)
 never-or-often zero t = inl refl
@@ -142,7 +146,23 @@ module _ (sh : Sheet) where
       often _ t (Named-often.expr {i} u) = omega (arith, eqb→eq (times i (exprs-named sh)) 1 t)
       often _ t (Named-often.step {n} {s} h k u) = omega (arith, step-used n s h t .1 (no-kind (s .kind) IR.Cache k))
 
--- 8, two Cache lines with one id ---------------------------------------------------------------------------------------------------
+  -- the number of each
+  pub unnamed-number : (l : Indexed) → Unnamed sh l → use-number (uses sh l) ≡ 8
+  unnamed-number _ (Unnamed.expr u) = ap use-number u
+  unnamed-number _ (Unnamed.step h u) = ap use-number u
+
+  pub often-number : (l : Indexed) → Named-often sh l → use-number (uses sh l) ≡ 12
+  often-number _ (Named-often.expr {i} u) = more (times i (exprs-named sh)) u
+  often-number _ (Named-often.step {n} h c u) = more (times n (named (sh .steps))) u
+
+  pub uses-given : (l : Indexed) → use-number (uses sh l) ≢ 0
+  uses-given l = by (uses sh l)
+    where
+      by : (k : ℕ) → use-number k ≢ 0
+      by zero e = omega arith
+      by (suc k) e = omega arith
+
+-- 13 ---------------------------------------------------------------------------------------------------------------------------
 
 abbrev has-id : ℕ → Step → Bool
 has-id id s = same-ir (s .kind) IR.Cache && eqb id (s .a)

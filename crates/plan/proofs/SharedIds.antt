@@ -1,4 +1,4 @@
--- Two Cache lines with one id, which refusal 8 turns back: the definition goes by key all the same, as the Rust does.
+-- Two Cache lines with one id, which refusals 12 and 13 turn back: the definition goes by key all the same, as the Rust does.
 use mathlib.Core.Path.{_≡_, refl}
 use Prim.Native.Nat.{ℕ}
 use mathlib.Core.Bool.{false}

@@ -8,17 +8,16 @@ use mathlib.Core.List.{List, [], _++_, map, List·Memᴰ}
 use lib.Dec.{T, leb, leb→le}
 use Rattle.plan.specs.Lists.{all?, sum, concat-map, numbered, times}
 use Rattle.plan.specs.Sheet.{Sheet, Outcome, refused, done, _then_, refuse_when_else_, read-lines, no-lines, too-long, no-plan, parts, read}
-use Rattle.plan.specs.Faults.{lines, references-right, named-right, id-right, field-right, reference-fault, use-fault, id-fault, field-fault, passes, first-fault, refused-by, checked}
+use Rattle.plan.specs.Faults.{Indexed, lines, references-right, uses, named-right, use-number, id-right, field-right, reference-fault, use-fault, id-fault, field-fault, passes, first-fault, refused-by, checked}
 use Rattle.plan.specs.Graph.{graph}
 use Rattle.plan.specs.Visit.{Run, simplify-ir-node-orders, looked-in}
 use Rattle.plan.specs.Walks.{begin, down, up, updated, simplify-and-fetch-orderings}
 use Rattle.plan.specs.Finished.{run, too-short}
-use Rattle.plan.specs.Conditions.{refusal-numbers, Refers-wrong, Named-wrong, Shares-id, Field-outside, At-end, Enters, Is-read, Has-plan, Has-references, Has-uses, Has-ids, Is-taken, Comes-to, Turned-back}
+use Rattle.plan.specs.Conditions.{refusal-numbers, Refers-wrong, Named-wrong, Shares-id, Field-outside, First, At-end, Enters, Is-read, Has-plan, Has-references, Has-uses, Has-ids, Is-taken, Comes-to, Turned-back}
 use Rattle.plan.proofs.Outcomes.{same-value, both-done, passed}
 use Rattle.plan.proofs.Counts.{stands-in}
-use Rattle.plan.proofs.FaultLaws.{pass-came, pass-none, pass-stops, pass-goes}
-use Rattle.plan.proofs.Firsts.{Tells, first-wrong, none-wrong, not-all, all-right}
-use Rattle.plan.proofs.LineFaults.{refers-wrong, refers-right, named-wrong, names-right, shares-id, ids-right, field-outside, fields-right}
+use Rattle.plan.proofs.Passes.{Pass, pass-came, pass-none, pass-stops, pass-goes}
+use Rattle.plan.proofs.LineFaults.{refers-wrong, refers-right, named-wrong, names-right, unnamed-number, often-number, uses-given, shares-id, ids-right, field-outside, fields-right}
 use Rattle.plan.proofs.Conditions.{same-number, no-refusal, refuses, goes-on, Lines-came, parts-came, lines-come, Visit-came, visit-came, join-told, join-of, sink-told, sink-of, join-comes, sink-comes, walk-refused, walk-stops}
 
 -- What a refusal came from --------------------------------------------------------------------------------------------------------------
@@ -33,32 +32,20 @@ unfolding refuse_when_else_
 refused-when k true o e = inl (same-number e, tt)
 refused-when k false o e = inr (tt, e)
 
--- The passes: the test of each tells the lines that are wrong -----------------------------------------------------------------------------
+-- The passes: the test of each tells the lines that are wrong, and gives their numbers -----------------------------------------------------------------------------
 
 module _ (sh : Sheet) where
-  abbrev references? : Bool
-  references? = all? (references-right sh) (lines sh)
+  references-pass : Pass (references-right sh) (Refers-wrong sh) (λ _. 7) (lines sh)
+  references-pass = record { tells = record { fails = λ l _. refers-wrong sh l; passes = λ l _. refers-right sh l }; given = λ _ e. omega arith }
 
-  abbrev uses? : Bool
-  uses? = all? (named-right sh) (lines sh)
+  uses-pass : Pass (named-right sh) (Named-wrong sh) (λ l. use-number (uses sh l)) (lines sh)
+  uses-pass = record { tells = record { fails = λ l _. named-wrong sh l; passes = λ l _. names-right sh l }; given = uses-given sh }
 
-  abbrev ids? : Bool
-  ids? = all? (id-right (sh .steps)) (numbered 0 (sh .steps))
+  ids-pass : Pass (id-right (sh .steps)) (Shares-id (sh .steps)) (λ _. 13) (numbered 0 (sh .steps))
+  ids-pass = record { tells = record { fails = shares-id (sh .steps); passes = ids-right (sh .steps) }; given = λ _ e. omega arith }
 
-  abbrev fields? : Bool
-  fields? = all? (field-right (sh .exprs)) (numbered 0 (sh .exprs))
-
-  references-tell : Tells (references-right sh) (Refers-wrong sh) (lines sh)
-  references-tell = record { fails = λ l _. refers-wrong sh l; passes = λ l _. refers-right sh l }
-
-  uses-tell : Tells (named-right sh) (Named-wrong sh) (lines sh)
-  uses-tell = record { fails = λ l _. named-wrong sh l; passes = λ l _. names-right sh l }
-
-  ids-tell : Tells (id-right (sh .steps)) (Shares-id (sh .steps)) (numbered 0 (sh .steps))
-  ids-tell = record { fails = shares-id (sh .steps); passes = ids-right (sh .steps) }
-
-  fields-tell : Tells (field-right (sh .exprs)) (Field-outside (sh .exprs)) (numbered 0 (sh .exprs))
-  fields-tell = record { fails = λ x _. field-outside (sh .exprs) x; passes = λ x _. fields-right (sh .exprs) x }
+  fields-pass : Pass (field-right (sh .exprs)) (Field-outside (sh .exprs)) (λ _. 9) (numbered 0 (sh .exprs))
+  fields-pass = record { tells = record { fails = λ x _. field-outside (sh .exprs) x; passes = λ x _. fields-right (sh .exprs) x }; given = λ _ e. omega arith }
 
   -- the numbers that are left after a pass
   abbrev after-ids : List ℕ
@@ -135,55 +122,47 @@ module _ (s output : List ℕ) (room : T (not (too-short output))) where
 
   -- references, uses, ids, fields
   module _ (sh : Sheet) where
-    stage₂ : Has-plan s output sh → T (references? sh) → Has-references s output sh
-    stage₂ k t = record { plan = k; references = none-wrong _ _ (lines sh) (references-tell sh) t }
-
-    stage₃ : Has-references s output sh → T (uses? sh) → Has-uses s output sh
-    stage₃ k t = record { references = k; uses = none-wrong _ _ (lines sh) (uses-tell sh) t }
-
-    stage₄ : Has-uses s output sh → T (ids? sh) → Has-ids s output sh
-    stage₄ k t = record { uses = k; ids = none-wrong _ _ (numbered 0 (sh .steps)) (ids-tell sh) t }
+    uses-back : {l : Indexed} {n : ℕ} → Has-references s output sh → First (Named-wrong sh) (lines sh) l → use-number (uses sh l) ≡ n → Back n
+    uses-back {l} k f e =
+        elim (f .wrong) [
+          | inl u ↦ subst Back (sym (unnamed-number sh l u) ∙ e) (Turned-back.unnamed k f u)
+          | inr u ↦ subst Back (sym (often-number sh l u) ∙ e) (Turned-back.named-often k f u)
+        ]
 
     check-back : read s ≡ done sh → (n : ℕ) → checked sh ≡ refused n → Back n
     unfolding first-fault
     check-back i n e =
         let k₁ = has-plan sh i in
         let (e₀, some) = given sh (first-fault (all-faults sh)) n (sym (by-passes sh) ∙ e) in
-        elim (pass-came (references-right sh) _ tt (lines sh) (after-references sh) e₀) [
-          | inl (k, t) ↦ subst Back k (Turned-back.references k₁ (first-wrong _ _ (lines sh) (references-tell sh) t .1))
+        elim (pass-came (references-pass sh) (after-references sh) e₀) [
+          | inl (_, f, k) ↦ subst Back k (Turned-back.references k₁ f)
           | inr (t₁, e₁) ↦
-              let k₂ = stage₂ k₁ t₁ in
-              elim (pass-came (named-right sh) _ tt (lines sh) (after-uses sh) e₁) [
-                | inl (k, t) ↦ subst Back k (Turned-back.uses k₂ (first-wrong _ _ (lines sh) (uses-tell sh) t .1))
+              let k₂ : Has-references s output sh = record { plan = k₁; references = t₁ } in
+              elim (pass-came (uses-pass sh) (after-uses sh) e₁) [
+                | inl (_, f, k) ↦ uses-back k₂ f k
                 | inr (t₂, e₂) ↦
-                    let k₃ = stage₃ k₂ t₂ in
-                    elim (pass-came (id-right (sh .steps)) _ tt (numbered 0 (sh .steps)) (after-ids sh) e₂) [
-                      | inl (k, t) ↦ subst Back k (Turned-back.ids k₃ (first-wrong _ _ (numbered 0 (sh .steps)) (ids-tell sh) t .1))
+                    let k₃ : Has-uses s output sh = record { references = k₂; uses = t₂ } in
+                    elim (pass-came (ids-pass sh) (after-ids sh) e₂) [
+                      | inl (_, f, k) ↦ subst Back k (Turned-back.ids k₃ f)
                       | inr (t₃, e₃) ↦
-                          elim (pass-came (field-right (sh .exprs)) _ tt (numbered 0 (sh .exprs)) [] e₃) [
-                            | inl (k, t) ↦ subst Back k (Turned-back.fields (stage₄ k₃ t₃) (first-wrong _ _ (numbered 0 (sh .exprs)) (fields-tell sh) t .1))
+                          elim (pass-came (fields-pass sh) [] e₃) [
+                            | inl (_, f, k) ↦ subst Back k (Turned-back.fields (record { uses = k₃; ids = t₃ }) f)
                             | inr (_, e₄) ↦ absurd (some (sym e₄))
                           ]
                     ]
               ]
         ]
 
-    -- all lines of a pass that gave nothing passed
-    all-passed : checked sh ≡ done sh → T (references? sh) × T (uses? sh) × T (ids? sh) × T (fields? sh)
-    all-passed e =
-        let (e₀, _) = none-given sh (first-fault (all-faults sh)) (sym (by-passes sh) ∙ e) in
-        let (t₁, e₁) = pass-none (references-right sh) _ tt (lines sh) (after-references sh) e₀ in
-        let (t₂, e₂) = pass-none (named-right sh) _ tt (lines sh) (after-uses sh) e₁ in
-        let (t₃, e₃) = pass-none (id-right (sh .steps)) _ tt (numbered 0 (sh .steps)) (after-ids sh) e₂ in
-        let (t₄, e₄) = pass-none (field-right (sh .exprs)) _ tt (numbered 0 (sh .exprs)) [] e₃ in
-        (t₁, t₂, t₃, t₄)
-
     taken : read s ≡ done sh → checked sh ≡ done sh → Is-taken s output sh
     taken i c =
-        let (t₁, t₂, t₃, t₄) = all-passed c in
+        let (e₀, _) = none-given sh (first-fault (all-faults sh)) (sym (by-passes sh) ∙ c) in
+        let (t₁, e₁) = pass-none (references-pass sh) (after-references sh) e₀ in
+        let (t₂, e₂) = pass-none (uses-pass sh) (after-uses sh) e₁ in
+        let (t₃, e₃) = pass-none (ids-pass sh) (after-ids sh) e₂ in
+        let (t₄, e₄) = pass-none (fields-pass sh) [] e₃ in
         record {
-          ids = stage₄ (stage₃ (stage₂ (has-plan sh i) t₁) t₂) t₃;
-          fields = none-wrong _ _ (numbered 0 (sh .exprs)) (fields-tell sh) t₄;
+          ids = record { uses = record { references = record { plan = has-plan sh i; references = t₁ }; uses = t₂ }; ids = t₃ };
+          fields = t₄;
         }
 
   is-taken : (sh : Sheet) → (read s then checked) ≡ done sh → Is-taken s output sh
@@ -259,24 +238,22 @@ module _ (s output : List ℕ) where
       after-reading (k .read) ∙ ap (λ (o : Outcome Sheet). o then checked then simplify-and-fetch-orderings) (goes-on 6 (no-plan sh) _ (k .plan))
 
   references-checked : {sh : Sheet} → Has-references s output sh → checked sh ≡ refused-by sh (first-fault (after-references sh))
-  references-checked {sh} k =
-      by-passes sh ∙ ap (refused-by sh) (pass-goes (references-right sh) _ tt (lines sh) (after-references sh) (all-right _ _ (lines sh) (references-tell sh) (k .references)))
+  references-checked {sh} k = by-passes sh ∙ ap (refused-by sh) (pass-goes (references-pass sh) (after-references sh) (k .references))
 
   uses-checked : {sh : Sheet} → Has-uses s output sh → checked sh ≡ refused-by sh (first-fault (after-uses sh))
-  uses-checked {sh} k =
-      references-checked (k .references)
-      ∙ ap (refused-by sh) (pass-goes (named-right sh) _ tt (lines sh) (after-uses sh) (all-right _ _ (lines sh) (uses-tell sh) (k .uses)))
+  uses-checked {sh} k = references-checked (k .references) ∙ ap (refused-by sh) (pass-goes (uses-pass sh) (after-uses sh) (k .uses))
 
   ids-checked : {sh : Sheet} → Has-ids s output sh → checked sh ≡ refused-by sh (first-fault (after-ids sh))
-  ids-checked {sh} k =
-      uses-checked (k .uses)
-      ∙ ap (refused-by sh) (pass-goes (id-right (sh .steps)) _ tt (numbered 0 (sh .steps)) (after-ids sh) (all-right _ _ (numbered 0 (sh .steps)) (ids-tell sh) (k .ids)))
+  ids-checked {sh} k = uses-checked (k .uses) ∙ ap (refused-by sh) (pass-goes (ids-pass sh) (after-ids sh) (k .ids))
 
   fields-checked : {sh : Sheet} → Is-taken s output sh → checked sh ≡ done sh
   unfolding first-fault
-  fields-checked {sh} k =
-      ids-checked (k .ids)
-      ∙ ap (refused-by sh) (pass-goes (field-right (sh .exprs)) _ tt (numbered 0 (sh .exprs)) [] (all-right _ _ (numbered 0 (sh .exprs)) (fields-tell sh) (k .fields)))
+  fields-checked {sh} k = ids-checked (k .ids) ∙ ap (refused-by sh) (pass-goes (fields-pass sh) [] (k .fields))
+
+  -- the first line that is named wrongly gives its number
+  use-checked : {sh : Sheet} {l : Indexed} {n : ℕ} → Has-references s output sh → First (Named-wrong sh) (lines sh) l → use-number (uses sh l) ≡ n
+      → checked sh ≡ refused-by sh n
+  use-checked {sh} {l} k f e = references-checked k ∙ ap (refused-by sh) (pass-stops (uses-pass sh) (after-uses sh) l f ∙ e)
 
   checked-to : {sh : Sheet} {n : ℕ} → Has-plan s output sh → checked sh ≡ refused n → outcome ≡ refused n
   unfolding _then_
@@ -305,21 +282,13 @@ module _ (s output : List ℕ) where
   comes-back _ (Turned-back.no-step-line {sh} k t) =
       after-reading k ∙ ap (λ (o : Outcome Sheet). o then checked then simplify-and-fetch-orderings) (refuses 6 (no-plan sh) _ t)
   comes-back _ (Turned-back.references {sh} {l} k f) =
-      checked-to k
-      (by-passes sh
-      ∙ ap (refused-by sh) (pass-stops (references-right sh) _ tt (lines sh) (after-references sh) (not-all _ _ (lines sh) (references-tell sh) l f)))
-  comes-back _ (Turned-back.uses {sh} {l} k f) =
-      checked-to (k .plan)
-      (references-checked k
-      ∙ ap (refused-by sh) (pass-stops (named-right sh) _ tt (lines sh) (after-uses sh) (not-all _ _ (lines sh) (uses-tell sh) l f)))
+      checked-to k (by-passes sh ∙ ap (refused-by sh) (pass-stops (references-pass sh) (after-references sh) l f))
+  comes-back _ (Turned-back.unnamed {sh} {l} k f u) = checked-to (k .plan) (use-checked k f (unnamed-number sh l u))
+  comes-back _ (Turned-back.named-often {sh} {l} k f u) = checked-to (k .plan) (use-checked k f (often-number sh l u))
   comes-back _ (Turned-back.ids {sh} {x} k f) =
-      checked-to (k .references .plan)
-      (uses-checked k
-      ∙ ap (refused-by sh) (pass-stops (id-right (sh .steps)) _ tt (numbered 0 (sh .steps)) (after-ids sh) (not-all _ _ (numbered 0 (sh .steps)) (ids-tell sh) x f)))
+      checked-to (k .references .plan) (uses-checked k ∙ ap (refused-by sh) (pass-stops (ids-pass sh) (after-ids sh) x f))
   comes-back _ (Turned-back.fields {sh} {x} k f) =
-      checked-to (k .uses .references .plan)
-      (ids-checked k
-      ∙ ap (refused-by sh) (pass-stops (field-right (sh .exprs)) _ tt (numbered 0 (sh .exprs)) [] (not-all _ _ (numbered 0 (sh .exprs)) (fields-tell sh) x f)))
+      checked-to (k .uses .references .plan) (ids-checked k ∙ ap (refused-by sh) (pass-stops (fields-pass sh) [] x f))
   comes-back _ (Turned-back.join {n} {r} k m t) = visiting k m (join-comes n r (join-of (looked-in n r) t))
   comes-back _ (Turned-back.sink {n} {r} k m t) = visiting k m (sink-comes n r (sink-of (looked-in n r) t))
 
@@ -337,7 +306,8 @@ listed s output n (Turned-back.no-table k a f) = on-list _ tt
 listed s output n (Turned-back.no-room k a f u) = on-list _ tt
 listed s output n (Turned-back.no-step-line k t) = on-list _ tt
 listed s output n (Turned-back.references k f) = on-list _ tt
-listed s output n (Turned-back.uses k f) = on-list _ tt
+listed s output n (Turned-back.unnamed k f u) = on-list _ tt
+listed s output n (Turned-back.named-often k f u) = on-list _ tt
 listed s output n (Turned-back.ids k f) = on-list _ tt
 listed s output n (Turned-back.fields k f) = on-list _ tt
 listed s output n (Turned-back.join k m t) = on-list _ tt

@@ -20,7 +20,7 @@ use Rattle.plan.specs.Finished.{too-short}
 
 -- the numbers that a call can answer
 abbrev pub refusal-numbers : List ℕ
-refusal-numbers = 1 ∷ 2 ∷ 3 ∷ 4 ∷ 5 ∷ 6 ∷ 7 ∷ 8 ∷ 9 ∷ 10 ∷ 11 ∷ []
+refusal-numbers = 1 ∷ 2 ∷ 3 ∷ 4 ∷ 5 ∷ 6 ∷ 7 ∷ 8 ∷ 9 ∷ 10 ∷ 11 ∷ 12 ∷ 13 ∷ []
 
 -- A line as it is read: 3, 4, 5 ---------------------------------------------------------------------------------------------
 
@@ -60,7 +60,7 @@ pub record At-end (from : Sheet) (ls : List (List ℕ)) (last : List ℕ) (sh : 
   pub lines : ls ≡ before ++ (last ∷ [])
   pub reads : Read-into from before sh
 
--- A line of a sheet that is read: 7, 8, 9 --------------------------------------------------------------------------------------
+-- A line of a sheet that is read: 7, 8, 12, 13, 9 --------------------------------------------------------------------------------------
 
 -- it refers to what it may not: a child or an input that is not on an earlier line, a Sink as input, an expression that is no E line
 pub data Refers-wrong (sh : Sheet) : Indexed → Type 0 where
@@ -178,8 +178,9 @@ pub data Turned-back (s output : List ℕ) : ℕ → Type 0 where
   -- the sheet, all its lines being read: its first line at fault
   no-step-line : {sh : Sheet} → Is-read s output sh → T (no-plan sh) → Turned-back s output 6
   references : {sh : Sheet} {l : Indexed} → Has-plan s output sh → First (Refers-wrong sh) (lines sh) l → Turned-back s output 7
-  uses : {sh : Sheet} {l : Indexed} → Has-references s output sh → First (Named-wrong sh) (lines sh) l → Turned-back s output 8
-  ids : {sh : Sheet} {x : ℕ × Step} → Has-uses s output sh → First (Shares-id (sh .steps)) (numbered 0 (sh .steps)) x → Turned-back s output 8
+  unnamed : {sh : Sheet} {l : Indexed} → Has-references s output sh → First (Named-wrong sh) (lines sh) l → Unnamed sh l → Turned-back s output 8
+  named-often : {sh : Sheet} {l : Indexed} → Has-references s output sh → First (Named-wrong sh) (lines sh) l → Named-often sh l → Turned-back s output 12
+  ids : {sh : Sheet} {x : ℕ × Step} → Has-uses s output sh → First (Shares-id (sh .steps)) (numbered 0 (sh .steps)) x → Turned-back s output 13
   fields : {sh : Sheet} {x : ℕ × Expr} → Has-ids s output sh → First (Field-outside (sh .exprs)) (numbered 0 (sh .exprs)) x → Turned-back s output 9
   -- a visit, all visits before it having passed
   join : {sh : Sheet} {n : ℕ} {r : Run} → Is-taken s output sh → Comes-to sh n r → Join-observes (looked-in n r) → Turned-back s output 10

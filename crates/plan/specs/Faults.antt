@@ -1,4 +1,4 @@
--- References, uses and struct fields of a sheet that has been read. Refusals 7, 8 and 9.
+-- References, uses, ids and struct fields of a sheet that has been read. Refusals 7, 8 and 12, 13, 9, in this order.
 use Prim.Native.Nat.{ℕ, zero, suc}
 use mathlib.Core.Bool.{Bool, _&&_, _||_, not}
 use mathlib.Core.List.{List, [], _∷_, _++_, map}
@@ -37,9 +37,9 @@ unfoldable pub references-right : Sheet → Indexed → Bool
 references-right sh (Indexed.expr x) = children-earlier x
 references-right sh (Indexed.step x) = inputs-earlier sh x && exprs-there sh x
 
--- 8 --
+-- 8 and 12 --
 
--- every naming of an E line
+-- every naming of an E line; two by one line are two
 unfoldable pub exprs-named : Sheet → List ℕ
 exprs-named sh = concat-map (λ (e : Expr). e .children) (sh .exprs) ++ concat-map (λ (s : Step). s .exprs ++ s .aggs) (sh .steps)
 
@@ -47,13 +47,25 @@ exprs-named sh = concat-map (λ (e : Expr). e .children) (sh .exprs) ++ concat-m
 unfoldable pub named : List Step → List ℕ
 named ps = concat-map (λ (s : Step). s .inputs) ps
 
+-- how often a line is named
+abbrev pub uses : Sheet → Indexed → ℕ
+uses sh (Indexed.expr (i, e)) = times i (exprs-named sh)
+uses sh (Indexed.step (n, s)) = times n (named (sh .steps))
+
 -- how often may a step be named? A Sink need not be, a Cache may be more than once
 abbrev pub use-right : IR → ℕ → Bool
 use-right kind count = same-ir kind IR.Sink || (leb 1 count && (same-ir kind IR.Cache || leb count 1))
 
 unfoldable pub named-right : Sheet → Indexed → Bool
-named-right sh (Indexed.expr (i, e)) = eqb (times i (exprs-named sh)) 1
-named-right sh (Indexed.step (n, s)) = use-right (s .kind) (times n (named (sh .steps)))
+named-right sh (Indexed.expr x) = eqb (uses sh (Indexed.expr x)) 1
+named-right sh (Indexed.step (n, s)) = use-right (s .kind) (uses sh (Indexed.step (n, s)))
+
+-- what is wrong with a line that is not named rightly: nothing names it, or it is named more than once
+abbrev pub use-number : ℕ → ℕ
+use-number zero = 8
+use-number (suc n) = 12
+
+-- 13 --
 
 unfoldable pub cache-ids : List Step → List ℕ
 cache-ids ps = map (λ (s : Step). s .a) (select (λ (s : Step). same-ir (s .kind) IR.Cache) ps)
@@ -88,15 +100,15 @@ abbrev pub reference-fault : Sheet → Indexed → ℕ
 reference-fault sh l = if references-right sh l then 0 else 7
 
 abbrev pub use-fault : Sheet → Indexed → ℕ
-use-fault sh l = if named-right sh l then 0 else 8
+use-fault sh l = if named-right sh l then 0 else use-number (uses sh l)
 
 abbrev pub id-fault : Sheet → ℕ × Step → ℕ
-id-fault sh x = if id-right (sh .steps) x then 0 else 8
+id-fault sh x = if id-right (sh .steps) x then 0 else 13
 
 abbrev pub field-fault : Sheet → ℕ × Expr → ℕ
 field-fault sh x = if field-right (sh .exprs) x then 0 else 9
 
--- one pass after the other
+-- One pass after the other. 8 and 12 are given by one: of the lines, E before P, the first at fault decides
 unfoldable pub passes : Sheet → List (List ℕ)
 passes sh =
     map (reference-fault sh) (lines sh)

@@ -2,7 +2,7 @@
 --
 -- The Rust tells steps apart by IRNodeKey (ir_node_key.rs): a Cache by its id, any other step by its node. Here the key of a step
 -- is a line: of the Cache lines with one id the one that the first pass meets first (`tracker.nodes[0]`), of any other step its
--- own. Refusal 8 leaves each id one line, so on an accepted sheet every step is its own key.
+-- own. Refusal 13 leaves each id one line, so on an accepted sheet every step is its own key.
 use Prim.Native.Nat.{ℕ, zero, suc, _+_}
 use mathlib.Core.Bool.{Bool, false, _&&_, _||_, not}
 use mathlib.Core.List.{List, [], _∷_, _++_, map, reverse}

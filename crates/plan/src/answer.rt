@@ -14,6 +14,6 @@ pub struct Finished {
 
 pub enum Answer {
     Finished(Finished),
-    // The number of document 01's table; the output is as it was.
+    // One of the refusal numbers; the output is as it was.
     Refused(u8),
 }

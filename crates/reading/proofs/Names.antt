@@ -1,7 +1,7 @@
 -- Namings and their counts.
 use mathlib.Core.Path.{_≡_, refl, sym, ap, _∙_}
 use mathlib.Core.Bool.{Bool, true, false, _&&_, _||_, not}
-use mathlib.Core.List.{List, [], _∷_, _++_, append-assoc, append-nil}
+use mathlib.Core.List.{List, [], _∷_, _++_, map, append-assoc, append-nil}
 use Prim.Native.Nat.{ℕ, zero, suc, _+_, _*_, _<_, _≤_}
 use native.Mathlib.Numerals.{add-one}
 use native.Mathlib.Omega.{arith}
@@ -14,13 +14,13 @@ use Rattle.plan.specs.declared.ir.IR.{IR}
 use Rattle.plan.specs.Kinds.{same-ir}
 use Rattle.plan.specs.Lists.{if_then_else_, all?, select, sum, concat-map, numbered, times}
 use Rattle.plan.specs.Sheet.{Expr, Step}
-use Rattle.plan.specs.Faults.{exprs-named, named, cache-ids, named-right, id-right}
-use Rattle.plan.proofs.FaultLaws.{over-lines}
+use Rattle.plan.specs.Faults.{exprs-named, named, cache-ids, named-right, use-number, id-right, use-fault, first-fault}
+use Rattle.plan.proofs.FaultLaws.{over-both}
 use Rattle.storage.specs.Stored.{stored-expr, stored-step, stored-exprs, stored-steps, table}
 use Rattle.storage.proofs.Laws.{table-more}
 use Rattle.plan.proofs.ListLaws.{sum-append}
 use Rattle.reading.specs.Held.{children-of, count-of, both, sheet}
-use Rattle.reading.specs.Uses.{capped, Counted, all-children, all-both, id-of, used, exprs-once, steps-used, ids-once, uses-right, once-in, used-in, id-once-in}
+use Rattle.reading.specs.Uses.{capped, Counted, all-children, all-both, id-of, used, uses-fault, exprs-fault, steps-fault, ids-once, expr-fault-in, step-fault-in, id-once-in}
 use Rattle.reading.proofs.Scans.{children-are, inputs-are, both-are, step-kind, step-a, step-kind-is}
 
 -- Counts up to 2 -------------------------------------------------------------------------------------------------------------
@@ -54,6 +54,12 @@ unfolding capped
 at-most zero = refl
 at-most (suc zero) = refl
 at-most (suc (suc n)) = sym (lt-leb (suc (suc n)) 1 (omega arith))
+
+same-number : (n : ℕ) → use-number (capped n) ≡ use-number n
+unfolding capped
+same-number zero = refl
+same-number (suc zero) = refl
+same-number (suc (suc n)) = refl
 
 times-one : (i q : ℕ) (names : List ℕ) → times i (names ++ (q ∷ [])) ≡ times i names + (if eqb i q then 1 else 0)
 unfolding sum
@@ -171,9 +177,13 @@ module _ (c names : List ℕ) (k : Counted c names) where
   pub once-is : (i : ℕ) → i < 256 → eqb (getD c i 0) 1 ≡ eqb (times i names) 1
   once-is i h = ap (λ n. eqb n 1) (k .each i h) ∙ once (times i names)
 
-  pub used-is : (ps : List ℕ) (i : ℕ) {r : Bool} → i < 256 → r ≡ used (getD ps (i * 32) 0) (getD c i 0) → r ≡ used-in names (i, stored-step ps i)
-  used-is ps i h e =
-      e ∙ rw (k .each i h, at-least (times i names), at-most (times i names), step-kind ps i)
+  pub expr-fault-is : (e : Expr) (i : ℕ) {r : ℕ} → i < 256 → r ≡ (if eqb (getD c i 0) 1 then 0 else use-number (getD c i 0)) → r ≡ expr-fault-in names (i, e)
+  expr-fault-is e i h p = p ∙ rw (k .each i h, once (times i names), same-number (times i names))
+
+  pub step-fault-is : (ps : List ℕ) (i : ℕ) {r : ℕ} → i < 256
+      → r ≡ (if used (getD ps (i * 32) 0) (getD c i 0) then 0 else use-number (getD c i 0)) → r ≡ step-fault-in names (i, stored-step ps i)
+  step-fault-is ps i h p =
+      p ∙ rw (k .each i h, at-least (times i names), at-most (times i names), same-number (times i names), step-kind ps i)
       (sym (rw (step-kind-is (getD ps (i * 32) 0) 2 (omega arith) (omega arith), step-kind-is (getD ps (i * 32) 0) 18 (omega arith) (omega arith))))
 
 pub id-is : (ps names : List ℕ) (i : ℕ) {r : Bool} → r ≡ (not (eqb (getD ps (i * 32) 0) 18) || eqb (times (getD ps (i * 32 + 1) 0) names) 1) → r ≡ id-once-in names (i, stored-step ps i)
@@ -186,35 +196,39 @@ pub cache-kind : (k : ℕ) {a b : Bool} → k ≡ 18 → a ≡ b → a ≡ (not 
 cache-kind k e f = rw (eq-eqb k 18 e) f
 
 module _ (es ps : List ℕ) (n m : ℕ) where
-  pub exprs-counted : {r : Bool} → r ≡ all? (once-in (all-children (stored-exprs es n) ++ all-both (stored-steps ps m))) (numbered 0 (stored-exprs es n)) → r ≡ exprs-once (sheet es n ps m)
-  unfolding exprs-once exprs-named all-children all-both
+  pub exprs-counted : {r : ℕ} → r ≡ first-fault (map (expr-fault-in (all-children (stored-exprs es n) ++ all-both (stored-steps ps m))) (numbered 0 (stored-exprs es n)))
+      → r ≡ exprs-fault (sheet es n ps m)
+  unfolding exprs-fault exprs-named all-children all-both
   exprs-counted e = e
 
-  pub steps-counted : {r : Bool} → r ≡ all? (used-in (named (stored-steps ps m))) (numbered 0 (stored-steps ps m)) → r ≡ steps-used (stored-steps ps m)
-  unfolding steps-used
+  pub steps-counted : {r : ℕ} → r ≡ first-fault (map (step-fault-in (named (stored-steps ps m))) (numbered 0 (stored-steps ps m))) → r ≡ steps-fault (stored-steps ps m)
+  unfolding steps-fault
   steps-counted e = e
 
   pub ids-counted : {r : Bool} → r ≡ all? (id-once-in (cache-ids (stored-steps ps m))) (numbered 0 (stored-steps ps m)) → r ≡ ids-once (stored-steps ps m)
   unfolding ids-once id-right
   ids-counted e = e
 
-  uses-are : uses-right (sheet es n ps m) ≡ (exprs-once (sheet es n ps m) && steps-used (stored-steps ps m) && ids-once (stored-steps ps m))
-  unfolding uses-right exprs-once steps-used ids-once named-right
-  uses-are = ap (λ b. b && ids-once (stored-steps ps m)) (over-lines (named-right (sheet es n ps m)) (sheet es n ps m))
+  uses-are : uses-fault (sheet es n ps m)
+      ≡ (if eqb (exprs-fault (sheet es n ps m)) 0 then steps-fault (stored-steps ps m) else exprs-fault (sheet es n ps m))
+  unfolding uses-fault exprs-fault steps-fault named-right
+  uses-are = over-both (use-fault (sheet es n ps m)) (sheet es n ps m)
 
-  pub not-exprs : {a : Bool} → a ≡ exprs-once (sheet es n ps m) → a ≡ false → false ≡ uses-right (sheet es n ps m)
-  not-exprs e f = sym (uses-are ∙ rw (← e, f))
+  module _ {a : ℕ} (e : a ≡ exprs-fault (sheet es n ps m)) where
+    pub exprs-decide : (a ≡ 0 → ⊥) → a ≡ uses-fault (sheet es n ps m)
+    exprs-decide h = sym (uses-are ∙ rw (← e, ne-eqb a 0 h))
 
-  pub not-steps : {a b : Bool} → a ≡ exprs-once (sheet es n ps m) → b ≡ steps-used (stored-steps ps m) → a ≡ true → b ≡ false → false ≡ uses-right (sheet es n ps m)
-  not-steps e f g h = sym (uses-are ∙ rw (← e, ← f, g, h))
-
-  pub all-uses : {a b c : Bool} → a ≡ exprs-once (sheet es n ps m) → b ≡ steps-used (stored-steps ps m) → c ≡ ids-once (stored-steps ps m) → a ≡ true → b ≡ true → c ≡ uses-right (sheet es n ps m)
-  all-uses e f g h k = sym (uses-are ∙ rw (← e, ← f, ← g, h, k))
+    pub steps-decide : {b : ℕ} → a ≡ 0 → b ≡ steps-fault (stored-steps ps m) → b ≡ uses-fault (sheet es n ps m)
+    steps-decide h f = sym (uses-are ∙ rw (← e, eq-eqb a 0 h, f))
 
 -- The code's needs -----------------------------------------------------------------------------------------------------------
 
 pub up : (c : List ℕ) (at q : ℕ) → at ≡ q → q < 256 → getD c at 0 < 2 → (names : List ℕ) → Counted c names → Counted (set c at (getD c at 0 + 1)) (names ++ (q ∷ []))
 up c at q e h l names k = rw e (counted-up c q names h k (rw e at l))
+
+pub named-already : (k : ℕ) → (k ≡ 0 → ⊥) → 12 ≡ use-number k
+named-already zero h = absurd (h refl)
+named-already (suc k) h = refl
 
 pub full : (c : List ℕ) (at q : ℕ) → at ≡ q → q < 256 → 2 ≤ getD c at 0 → (names : List ℕ) → Counted c names → Counted c (names ++ (q ∷ []))
 full c at q e h l names k = counted-full c q names h k (rw e at l)

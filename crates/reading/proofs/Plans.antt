@@ -5,10 +5,11 @@ use mathlib.Core.List.{List}
 use Prim.Native.Nat.{ℕ, _<_, _≤_}
 use native.Mathlib.Omega.{arith}
 use lib.ListN.{length}
-use borrow.Author.Tests.{lt-ltb, le-ltb}
+use lib.Dec.{eqb}
+use borrow.Author.Tests.{lt-ltb, le-ltb, eq-eqb, ne-eqb}
 use Rattle.plan.specs.Lists.{all?, numbered}
 use Rattle.plan.specs.Sheet.{Sheet, Outcome, refused, done, _then_, refuse_when_else_, read, read-lines, parts, no-lines, no-plan}
-use Rattle.plan.specs.Faults.{lines, references-right, named-right, id-right, field-right, checked}
+use Rattle.plan.specs.Faults.{lines, references-right, field-right, checked}
 use Rattle.plan.proofs.Checked.{checked-is}
 use Rattle.storage.specs.Stored.{stored-expr, stored-step, stored-exprs, stored-steps, Steps-held}
 use Rattle.storage.proofs.Laws.{length-table}
@@ -19,7 +20,7 @@ use Rattle.reading.specs.declared.lines.LineCounts.{LineCounts}
 use Rattle.reading.specs.declared.lines.Lines.{Lines}
 use Rattle.reading.specs.declared.PlanRead.{PlanRead}
 use Rattle.reading.specs.declared.PlanRead.the-variants.{Taken, Refused}
-use Rattle.reading.specs.Uses.{uses-right}
+use Rattle.reading.specs.Uses.{uses-fault, ids-once}
 use Rattle.reading.proofs.Checks.{no-steps, some-steps}
 
 -- What comes after the last line ---------------------------------------------------------------------------------------------
@@ -40,36 +41,36 @@ module _ (es ps : List ℕ) (n m : ℕ) where
     abbrev fields : Outcome Sheet
     fields = refuse 9 when not (all? (field-right (stored-exprs es n)) (numbered 0 (stored-exprs es n))) else done sh
 
-    -- the passes, both that give 8 together
     passes : checked-plan sh
-        ≡ (refuse 7 when not (all? (references-right sh) (lines sh)) else refuse 8 when not (uses-right sh) else fields)
-    unfolding uses-right refuse_when_else_
-    passes =
-        on ∙ checked-is sh
-        ∙ by (all? (references-right sh) (lines sh)) (all? (named-right sh) (lines sh)) (all? (id-right (stored-steps ps m)) (numbered 0 (stored-steps ps m)))
-      where
-        by : (a b c : Bool) → (refuse 7 when not a else refuse 8 when not b else refuse 8 when not c else fields) ≡ (refuse 7 when not a else refuse 8 when not (b && c) else fields)
-        by false _ _ = refl
-        by true false _ = refl
-        by true true _ = refl
+        ≡ (refuse 7 when not (all? (references-right sh) (lines sh)) else
+        refuse uses-fault sh when not (eqb (uses-fault sh) 0) else
+        refuse 13 when not (ids-once (stored-steps ps m)) else
+        fields)
+    unfolding uses-fault ids-once
+    passes = on ∙ checked-is sh
 
     pub bad-reference : {a : Bool} → a ≡ all? (references-right sh) (lines sh) → a ≡ false → checked-plan sh ≡ refused 7
     unfolding refuse_when_else_
     bad-reference e f = passes ∙ rw (← e, f)
 
     module _ {a : Bool} (e : a ≡ all? (references-right sh) (lines sh)) (f : a ≡ true) where
-      pub bad-use : {b : Bool} → b ≡ uses-right sh → b ≡ false → checked-plan sh ≡ refused 8
+      pub bad-use : {k : ℕ} → k ≡ uses-fault sh → (k ≡ 0 → ⊥) → checked-plan sh ≡ refused k
       unfolding refuse_when_else_
-      bad-use g k = passes ∙ rw (← e, f, ← g, k)
+      bad-use {k} g d = passes ∙ rw (← e, f, ← g, ne-eqb k 0 d)
 
-      module _ {b : Bool} (g : b ≡ uses-right sh) (k : b ≡ true) where
-        pub bad-field : {c : Bool} → c ≡ all? (field-right (stored-exprs es n)) (numbered 0 (stored-exprs es n)) → c ≡ false → checked-plan sh ≡ refused 9
+      module _ {k : ℕ} (g : k ≡ uses-fault sh) (z : k ≡ 0) where
+        pub bad-id : {b : Bool} → b ≡ ids-once (stored-steps ps m) → b ≡ false → checked-plan sh ≡ refused 13
         unfolding refuse_when_else_
-        bad-field i j = passes ∙ rw (← e, f, ← g, k, ← i, j)
+        bad-id h d = passes ∙ rw (← e, f, ← g, eq-eqb k 0 z, ← h, d)
 
-        pub good : {c : Bool} → c ≡ all? (field-right (stored-exprs es n)) (numbered 0 (stored-exprs es n)) → c ≡ true → checked-plan sh ≡ done sh
-        unfolding refuse_when_else_
-        good i j = passes ∙ rw (← e, f, ← g, k, ← i, j)
+        module _ {b : Bool} (d : b ≡ ids-once (stored-steps ps m)) (t : b ≡ true) where
+          pub bad-field : {c : Bool} → c ≡ all? (field-right (stored-exprs es n)) (numbered 0 (stored-exprs es n)) → c ≡ false → checked-plan sh ≡ refused 9
+          unfolding refuse_when_else_
+          bad-field i j = passes ∙ rw (← e, f, ← g, eq-eqb k 0 z, ← d, t, ← i, j)
+
+          pub good : {c : Bool} → c ≡ all? (field-right (stored-exprs es n)) (numbered 0 (stored-exprs es n)) → c ≡ true → checked-plan sh ≡ done sh
+          unfolding refuse_when_else_
+          good i j = passes ∙ rw (← e, f, ← g, eq-eqb k 0 z, ← d, t, ← i, j)
 
   exprs-length : length (stored-exprs es n) ≡ n
   unfolding stored-exprs

@@ -1,7 +1,7 @@
 -- References, as the loops find them.
 use mathlib.Core.Path.{_≡_, refl, sym, ap, _∙_}
 use mathlib.Core.Bool.{Bool, true, false, _&&_, not, and-assoc}
-use mathlib.Core.List.{List, [], _∷_}
+use mathlib.Core.List.{List, [], _∷_, map}
 use Prim.Native.Nat.{ℕ, _+_, _*_, _<_, _≤_}
 use native.Mathlib.Omega.{arith}
 use lib.Dec.{eqb, ltb}
@@ -11,13 +11,13 @@ use Rattle.plan.specs.declared.ir.IR.{IR}
 use Rattle.plan.specs.Kinds.{same-ir}
 use Rattle.plan.specs.Lists.{all?, numbered}
 use Rattle.plan.specs.Sheet.{Expr, Step, Sheet, step-at, no-step}
-use Rattle.plan.specs.Faults.{lines, children-earlier, inputs-earlier, exprs-there, references-right}
+use Rattle.plan.specs.Faults.{lines, children-earlier, inputs-earlier, exprs-there, references-right, first-fault}
 use Rattle.plan.proofs.FaultLaws.{over-lines, all-and}
 use Rattle.storage.specs.Stored.{stored-expr, stored-step, stored-exprs, stored-steps}
 use Rattle.storage.proofs.Laws.{length-table, table-at}
 use Rattle.reading.specs.Held.{children-of, count-of, both, before-no-sink, sheet}
 use Rattle.reading.proofs.Checks.{first-holds}
-use Rattle.reading.proofs.Scans.{children-are, inputs-are, both-are, step-kind, step-kind-is, lines-from, from-first}
+use Rattle.reading.proofs.Scans.{children-are, inputs-are, both-are, step-kind, step-kind-is, lines-from, from-first, faults-from, faults-first}
 
 pub all-same : {A : Type 0} (f g : A → Bool) → ((x : A) → f x ≡ g x) → (l : List A) → all? f l ≡ all? g l
 unfolding all?
@@ -31,6 +31,14 @@ exprs-first f es n = from-first f (stored-expr es) n
 pub steps-first : (f : ℕ × Step → Bool) (ps : List ℕ) (n : ℕ) → all? f (numbered 0 (stored-steps ps n)) ≡ lines-from f (stored-step ps) n 0
 unfolding stored-steps
 steps-first f ps n = from-first f (stored-step ps) n
+
+pub expr-faults-first : (f : ℕ × Expr → ℕ) (es : List ℕ) (n : ℕ) → first-fault (map f (numbered 0 (stored-exprs es n))) ≡ faults-from f (stored-expr es) n 0
+unfolding stored-exprs
+expr-faults-first f es n = faults-first f (stored-expr es) n
+
+pub step-faults-first : (f : ℕ × Step → ℕ) (ps : List ℕ) (n : ℕ) → first-fault (map f (numbered 0 (stored-steps ps n))) ≡ faults-from f (stored-step ps) n 0
+unfolding stored-steps
+step-faults-first f ps n = faults-first f (stored-step ps) n
 
 pub children-found : (es : List ℕ) (i n : ℕ) (r : Bool) → n ≡ children-of es i → r ≡ all? (λ q. ltb q i) (take n (drop (i * 16 + 4) es)) → r ≡ children-earlier (i, stored-expr es i)
 unfolding children-earlier
@@ -112,5 +120,5 @@ module _ (es ps : List ℕ) (n m : ℕ) where
           → c ≡ all? (references-right sh) (lines sh)
       all-three i f h = sym (references-are ∙ rw (← e, ← g, ← i, f, h))
 
-  pub children-first : all? (references-right sh) (lines sh) ≡ true → all? children-earlier (numbered 0 (stored-exprs es n)) ≡ true
-  children-first e = first-holds (all? children-earlier (numbered 0 (stored-exprs es n))) _ _ (sym references-are ∙ e)
+  pub children-first : {a : Bool} → a ≡ all? (references-right sh) (lines sh) → a ≡ true → all? children-earlier (numbered 0 (stored-exprs es n)) ≡ true
+  children-first e f = first-holds (all? children-earlier (numbered 0 (stored-exprs es n))) _ _ (sym (e ∙ references-are) ∙ f)

@@ -1,7 +1,7 @@
 -- Loops that test each entry of a list in turn.
 use mathlib.Core.Path.{_≡_, sym, ap, _∙_}
 use mathlib.Core.Bool.{Bool, true, false, _&&_}
-use mathlib.Core.List.{List, [], _∷_, _++_}
+use mathlib.Core.List.{List, [], _∷_, _++_, map}
 use Prim.Native.Nat.{ℕ, suc, _+_, _*_, _-_, _<_, _≤_}
 use native.Mathlib.Numerals.{add-one}
 use native.Mathlib.Omega.{arith}
@@ -16,8 +16,10 @@ use Rattle.plan.specs.Kinds.{aexprs, aexpr, aexpr-number, irs, ir, ir-number}
 use Rattle.plan.proofs.KindNumbers.{aexpr-there, ir-there}
 use Rattle.plan.specs.Lists.{all?, numbered}
 use Rattle.plan.specs.Sheet.{expr-of, step-of}
+use Rattle.plan.specs.Faults.{first-fault}
 use Rattle.storage.specs.Stored.{stored-expr, stored-step, table}
 use Rattle.plan.proofs.ListLaws.{drop-take}
+use Rattle.plan.proofs.FaultLaws.{first-given}
 use Rattle.reading.specs.Held.{children-of, count-of, both}
 
 -- a count that goes down as an index goes up
@@ -89,6 +91,30 @@ module _ {A : Type 0} (f : ℕ × A → Bool) (g : ℕ → A) (n : ℕ) where
   pub from-first : all? f (numbered 0 (table g 0 n)) ≡ lines-from 0
   unfolding lines-from
   from-first = let e : n - 0 ≡ n = omega arith in rw e
+
+-- the same of lines that have a number each: the first that is not 0
+module _ {A : Type 0} (f : ℕ × A → ℕ) (g : ℕ → A) (n : ℕ) where
+  unfoldable pub faults-from : ℕ → ℕ
+  faults-from i = first-fault (map f (numbered i (table g i (n - i))))
+
+  fault-next : (i : ℕ) → i < n → faults-from i ≡ first-fault (f (i, g i) ∷ map f (numbered (i + 1) (table g (i + 1) (n - (i + 1)))))
+  unfolding numbered table faults-from
+  fault-next i h = rw (left i n h, add-one i)
+
+  pub fault-found : (i : ℕ) {k w : ℕ} → i < n → k ≡ f (i, g i) → (k ≡ 0 → ⊥) → w ≡ faults-from i → k ≡ w
+  fault-found i h e d p = sym (p ∙ fault-next i h ∙ rw (← e) (first-given _ _ d))
+
+  pub fault-none : (i : ℕ) {k w : ℕ} → i < n → k ≡ f (i, g i) → k ≡ 0 → w ≡ faults-from i → w ≡ faults-from (i + 1)
+  unfolding first-fault faults-from
+  fault-none i h e z p = p ∙ fault-next i h ∙ rw (← e, z)
+
+  pub faults-none : (i : ℕ) {w : ℕ} → n ≤ i → w ≡ faults-from i → 0 ≡ w
+  unfolding first-fault numbered table faults-from
+  faults-none i h p = let e : n - i ≡ 0 = omega arith in sym (p ∙ rw e)
+
+  pub faults-first : first-fault (map f (numbered 0 (table g 0 n))) ≡ faults-from 0
+  unfolding faults-from
+  faults-first = let e : n - 0 ≡ n = omega arith in rw e
 
 -- The lists of stored lines --------------------------------------------------------------------------------------------------
 

@@ -1,4 +1,4 @@
-// From the bytes of a sheet to its plan: refusals 2 to 9 of document 01.
+// From the bytes of a sheet to its plan: refusals 2 to 9, 12 and 13.
 ghost use Rattle.storage.specs.Stored.{Steps-held};
 ghost use Rattle.reading.specs.Held.{Exprs-held, sheet};
 ghost use Rattle.reading.specs.Plan.{checked-plan, plan-of, Plan-is, Plan-held};
@@ -11,7 +11,7 @@ pub mod lines; // lines.rt: the lines, one after the other, as they are stored
 pub mod number; // number.rt: a number of a line
 pub mod references; // references.rt: what lines refer to
 pub mod tables; // tables.rt: what each kind of line may have
-pub mod uses; // uses.rt: how often lines are named
+pub mod uses; // uses.rt: how often lines are named, and ids
 
 // How many E lines and P lines a plan has.
 pub struct Counts {
@@ -21,11 +21,11 @@ pub struct Counts {
 
 pub enum PlanRead {
     Taken(Counts),
-    // The number of document 01's table.
+    // One of the refusal numbers.
     Refused(u8),
 }
 
-// What is checked once all lines are read: a plan is there, references, uses, struct fields (6 to 9).
+// What is checked once all lines are read: a plan is there (6), references (7), uses (8 and 12), ids (13), struct fields (9).
 fn check_plan(exprs: &[u8; 2048], count: usize, steps: &[u8; 1024], n: usize) -> PlanRead
     requires { ⌜ Exprs-held (now exprs) count × Steps-held (now steps) n ⌝ }
     ensures { λ r. ⌜ Plan-is (checked-plan (sheet (now (exprs .entry)) count (now (steps .entry)) n)) (now (exprs .entry)) (now (steps .entry)) r × Plan-held (now (exprs .entry)) (now (steps .entry)) r ⌝ }
@@ -36,8 +36,12 @@ fn check_plan(exprs: &[u8; 2048], count: usize, steps: &[u8; 1024], n: usize) ->
     if !crate::references::references_right(exprs, count, steps, n) {
         return PlanRead::Refused(7);
     }
-    if !crate::uses::uses_right(exprs, count, steps, n) {
-        return PlanRead::Refused(8);
+    let fault = crate::uses::uses_fault(exprs, count, steps, n);
+    if fault != 0 {
+        return PlanRead::Refused(fault);
+    }
+    if !crate::uses::ids_differ(steps, n) {
+        return PlanRead::Refused(13);
     }
     if !crate::fields::fields_right(exprs, count) {
         return PlanRead::Refused(9);

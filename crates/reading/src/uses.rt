@@ -1,15 +1,15 @@
-// How often the lines are named, and the ids of Cache lines (refusal 8). Counts go to 2, which stands for more as well.
+// How often the lines are named (refusals 8 and 12), and the ids of Cache lines (13). Counts go to 2, which stands for more as well.
 ghost use mathlib.Core.Path.{_≡_};
 ghost use mathlib.Core.Bool.{_||_, not};
-ghost use mathlib.Core.List.{List, [], _∷_, _++_};
+ghost use mathlib.Core.List.{List, [], _∷_, _++_, map};
 ghost use Prim.Native.Nat.{ℕ, _+_, _*_, _≤_, _<_};
 ghost use lib.Dec.{eqb};
 ghost use lib.ListN.{length, take, drop};
-ghost use Rattle.plan.specs.Lists.{all?, numbered, times};
-ghost use Rattle.plan.specs.Faults.{cache-ids, named};
+ghost use Rattle.plan.specs.Lists.{if_then_else_, all?, numbered, times};
+ghost use Rattle.plan.specs.Faults.{cache-ids, named, use-number, first-fault};
 ghost use Rattle.storage.specs.Stored.{stored-exprs, stored-steps, Steps-held};
 ghost use Rattle.reading.specs.Held.{Exprs-held, sheet};
-ghost use Rattle.reading.specs.Uses.{Counted, all-children, all-both, exprs-once, steps-used, ids-once, uses-right, used, id-of, once-in, used-in, id-once-in};
+ghost use Rattle.reading.specs.Uses.{Counted, all-children, all-both, uses-fault, exprs-fault, steps-fault, ids-once, used, id-of, expr-fault-in, step-fault-in, id-once-in};
 
 fn wide(x: u8) -> usize
     ensures { λ r. ⌜ (r ≡ x) × (r < 256) ⌝ }
@@ -102,19 +102,24 @@ fn count_ids(counts: &mut [u8; 256], steps: &[u8; 1024], n: usize)
     }
 }
 
-// Is each of the first n numbers named once?
-fn each_once(counts: &[u8; 256], n: usize) -> bool
-    requires { ⌜ n ≤ 256 ⌝ }
-    ensures { λ r. ⌜ ((es names : List ℕ) → Counted (now (counts .entry)) names → r ≡ all? (once-in names) (numbered 0 (stored-exprs es n))) ⌝ }
+// A line that is named wrongly: nothing names it, or it is named more than once.
+fn use_number(count: u8) -> u8
+    ensures { λ r. ⌜ r ≡ use-number count ⌝ }
 {
-    let mut i: usize = 0;
-    while i < n {
-        if counts[i] != 1 {
-            return false;
-        }
-        i += 1;
+    if count == 0 {
+        return 8;
     }
-    true
+    12
+}
+
+// An E line is named once.
+fn expr_fault(count: u8) -> u8
+    ensures { λ r. ⌜ r ≡ (if eqb count 1 then 0 else use-number count) ⌝ }
+{
+    if count == 1 {
+        return 0;
+    }
+    use_number(count)
 }
 
 // A Sink need not be named, a Cache may be more than once.
@@ -124,18 +129,45 @@ fn use_right(kind: u8, count: u8) -> bool
     (kind == 2) | ((1 <= count) & ((kind == 18) | (count <= 1)))
 }
 
-fn all_used(counts: &[u8; 256], steps: &[u8; 1024], n: usize) -> bool
-    requires { ⌜ n ≤ 32 ⌝ }
-    ensures { λ r. ⌜ ((names : List ℕ) → Counted (now (counts .entry)) names → r ≡ all? (used-in names) (numbered 0 (stored-steps (now (steps .entry)) n))) ⌝ }
+fn step_fault(kind: u8, count: u8) -> u8
+    ensures { λ r. ⌜ r ≡ (if used kind count then 0 else use-number count) ⌝ }
+{
+    if use_right(kind, count) {
+        return 0;
+    }
+    use_number(count)
+}
+
+// The first E line at fault, of n.
+fn first_expr_fault(counts: &[u8; 256], n: usize) -> u8
+    requires { ⌜ n ≤ 256 ⌝ }
+    ensures { λ r. ⌜ ((es names : List ℕ) → Counted (now (counts .entry)) names → r ≡ first-fault (map (expr-fault-in names) (numbered 0 (stored-exprs es n)))) ⌝ }
 {
     let mut i: usize = 0;
     while i < n {
-        if !use_right(steps[i * 32], counts[i]) {
-            return false;
+        let number = expr_fault(counts[i]);
+        if number != 0 {
+            return number;
         }
         i += 1;
     }
-    true
+    0
+}
+
+// The first P line at fault, of n.
+fn first_step_fault(counts: &[u8; 256], steps: &[u8; 1024], n: usize) -> u8
+    requires { ⌜ n ≤ 32 ⌝ }
+    ensures { λ r. ⌜ ((names : List ℕ) → Counted (now (counts .entry)) names → r ≡ first-fault (map (step-fault-in names) (numbered 0 (stored-steps (now (steps .entry)) n)))) ⌝ }
+{
+    let mut i: usize = 0;
+    while i < n {
+        let fault = step_fault(steps[i * 32], counts[i]);
+        if fault != 0 {
+            return fault;
+        }
+        i += 1;
+    }
+    0
 }
 
 fn id_once(counts: &[u8; 256], kind: u8, a: u8) -> bool
@@ -162,25 +194,37 @@ fn all_ids_once(counts: &[u8; 256], steps: &[u8; 1024], n: usize) -> bool
     true
 }
 
-// Each E line is named once.
-pub fn exprs_used_once(exprs: &[u8; 2048], count: usize, steps: &[u8; 1024], n: usize) -> bool
+// The pass over the E lines.
+pub fn exprs_fault(exprs: &[u8; 2048], count: usize, steps: &[u8; 1024], n: usize) -> u8
     requires { ⌜ Exprs-held (now exprs) count × Steps-held (now steps) n ⌝ }
-    ensures { λ r. ⌜ r ≡ exprs-once (sheet (now (exprs .entry)) count (now (steps .entry)) n) ⌝ }
+    ensures { λ r. ⌜ r ≡ exprs-fault (sheet (now (exprs .entry)) count (now (steps .entry)) n) ⌝ }
 {
     let mut counts = [0u8; 256];
     count_children(&mut counts, exprs, count);
     count_expressions(&mut counts, steps, n);
-    each_once(&counts, count)
+    first_expr_fault(&counts, count)
 }
 
-// Each P line is named as often as its kind may be.
-pub fn steps_used(steps: &[u8; 1024], n: usize) -> bool
+// The pass over the P lines.
+pub fn steps_fault(steps: &[u8; 1024], n: usize) -> u8
     requires { ⌜ Steps-held (now steps) n ⌝ }
-    ensures { λ r. ⌜ r ≡ steps-used (stored-steps (now (steps .entry)) n) ⌝ }
+    ensures { λ r. ⌜ r ≡ steps-fault (stored-steps (now (steps .entry)) n) ⌝ }
 {
     let mut counts = [0u8; 256];
     count_inputs(&mut counts, steps, n);
-    all_used(&counts, steps, n)
+    first_step_fault(&counts, steps, n)
+}
+
+// The first line that is named wrongly: 8 if nothing names it, 12 if it is named more than once, 0 if there is none.
+pub fn uses_fault(exprs: &[u8; 2048], count: usize, steps: &[u8; 1024], n: usize) -> u8
+    requires { ⌜ Exprs-held (now exprs) count × Steps-held (now steps) n ⌝ }
+    ensures { λ r. ⌜ r ≡ uses-fault (sheet (now (exprs .entry)) count (now (steps .entry)) n) ⌝ }
+{
+    let fault = exprs_fault(exprs, count, steps, n);
+    if fault != 0 {
+        return fault;
+    }
+    steps_fault(steps, n)
 }
 
 // No two Cache lines have one id.
@@ -191,17 +235,4 @@ pub fn ids_differ(steps: &[u8; 1024], n: usize) -> bool
     let mut counts = [0u8; 256];
     count_ids(&mut counts, steps, n);
     all_ids_once(&counts, steps, n)
-}
-
-pub fn uses_right(exprs: &[u8; 2048], count: usize, steps: &[u8; 1024], n: usize) -> bool
-    requires { ⌜ Exprs-held (now exprs) count × Steps-held (now steps) n ⌝ }
-    ensures { λ r. ⌜ r ≡ uses-right (sheet (now (exprs .entry)) count (now (steps .entry)) n) ⌝ }
-{
-    if !exprs_used_once(exprs, count, steps, n) {
-        return false;
-    }
-    if !steps_used(steps, n) {
-        return false;
-    }
-    ids_differ(steps, n)
 }

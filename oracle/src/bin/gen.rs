@@ -19,6 +19,7 @@ limit   at 128 expressions and 32 steps, now and then one more
 deep    long chains and high trees
 near    a valid sheet with one or two faults put in
 noise   random bytes and damaged text
+uses    a valid sheet with one to four lines named by none or too often, or Cache lines that share an id
 ";
 
 fn main() -> ExitCode {

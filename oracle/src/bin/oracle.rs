@@ -14,7 +14,7 @@ Prints the finished sheet, or R,n for a refusal.
              sheet wherever it stands, so a sheet may lack its last byte 10 or be empty. A sheet that holds the mark
              can't be carried. Bytes after the last mark are one more sheet. Each answer is followed by the mark.
 --out-len N  Answers as if the output lent had N bytes; 16384 unless given.
---unchecked  Leaves out 7, 8 and 9, which the Rust does not check: shows what it makes of such a sheet. It may panic, or not end.
+--unchecked  Leaves out 7 to 9, 12 and 13, which the Rust does not check: shows what it makes of such a sheet. It may panic, or not end.
 --list       Prints, for each list of expressions that is looked at, L,visit,step,allow,answer,observed,looks and the
              list's entries, then the E lines as they stand after it. Visits count from 1. allow is 1 if the last
              look may remove sorts at the top. answer and observed add 1 for COLUMN and 2 for INDEPENDENT; observed is

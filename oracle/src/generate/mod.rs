@@ -7,6 +7,7 @@ mod plans;
 mod random;
 pub mod share;
 mod trees;
+mod uses;
 
 use maker::{Maker, Shape};
 use random::Random;
@@ -29,15 +30,18 @@ pub enum Family {
     Near,
     /// Random bytes and damaged text.
     Noise,
+    /// A valid sheet with lines named by none or too often.
+    Uses,
 }
 
-pub const FAMILIES: [(&str, Family); 6] = [
+pub const FAMILIES: [(&str, Family); 7] = [
     ("valid", Family::Valid),
     ("small", Family::Small),
     ("limit", Family::Limit),
     ("deep", Family::Deep),
     ("near", Family::Near),
     ("noise", Family::Noise),
+    ("uses", Family::Uses),
 ];
 
 /// Sheet number `number` of a family and seed.
@@ -52,6 +56,7 @@ pub fn sheet(family: Family, seed: u64, number: u64) -> Vec<u8> {
             Family::Deep => deep::deep(&mut random).text(),
             Family::Near => damage::near(&mut random),
             Family::Noise => noise::noise(&mut random),
+            Family::Uses => uses::uses(&mut random).text(),
         };
         if batch::can_carry(&sheet) {
             return sheet;

@@ -7,7 +7,7 @@ use crate::{answer, lines, list_lines};
 const SCAN: &str = "P,0,0,0,0,0,0,0\n";
 const SINK: &str = "P,2,0,0,0,1,0,0,0\n";
 
-/// The Rust's answer to a sheet whose lines are in order, the refusals 7 to 9 left out.
+/// The Rust's answer to a sheet whose lines are in order, the refusals 7 to 9, 12 and 13 left out.
 fn unchecked(sheet: &str) -> Result<String, Stop> {
     let lines = oracle::unchecked(sheet.as_bytes(), oracle::LEAST_OUTPUT).unwrap();
     let finished = oracle::run::run(&lines)?;
@@ -104,24 +104,24 @@ fn lines_named_by_none() {
 
 #[test]
 fn lines_named_twice() {
-    taken_by_the_rust(8, &format!("{SCAN}{SINK}{SINK}"), "G,1,0,0\nG,2,0,0\nT,0,8,0\n");
+    taken_by_the_rust(12, &format!("{SCAN}{SINK}{SINK}"), "G,1,0,0\nG,2,0,0\nT,0,8,0\n");
     let sheet = format!("E,0,0,1,0\n{SCAN}P,3,0,0,0,1,2,0,0,0,0\nP,2,0,0,0,1,0,0,1\n");
-    taken_by_the_rust(8, &sheet, "T,0,6,4\n");
+    taken_by_the_rust(12, &sheet, "T,0,6,4\n");
     let sheet = format!("E,0,0,1,0\n{SCAN}P,3,0,0,0,1,1,0,0,0\nP,3,0,0,0,1,1,0,1,0\nP,2,0,0,0,1,0,0,2\n");
-    taken_by_the_rust(8, &sheet, "T,0,8,8\n");
+    taken_by_the_rust(12, &sheet, "T,0,8,8\n");
     for kind in [1, 14] {
-        taken_by_the_rust(8, &format!("P,{kind},0,0,0,0,0,0\n{SINK}{SINK}"), "G,1,0,0\nG,2,0,0\nT,0,8,0\n");
+        taken_by_the_rust(12, &format!("P,{kind},0,0,0,0,0,0\n{SINK}{SINK}"), "G,1,0,0\nG,2,0,0\nT,0,8,0\n");
     }
     let sheet = format!("{SCAN}P,9,0,0,0,2,0,0,0,0\nP,2,0,0,0,1,0,0,1\n");
-    taken_by_the_rust(8, &sheet, "G,2,0,0\nG,1,0,0\nG,1,1,0\nT,0,8,0\n");
+    taken_by_the_rust(12, &sheet, "G,2,0,0\nG,1,0,0\nG,1,1,0\nT,0,8,0\n");
     // A step with an input panics instead, as does a Union without one.
     let sheet = format!("{SCAN}P,15,0,0,0,1,0,0,0\nP,2,0,0,0,1,0,0,1\nP,2,0,0,0,1,0,0,1\n");
-    a_panic_in_the_rust(8, &sheet, "current_edges.in_edges.is_empty()");
+    a_panic_in_the_rust(12, &sheet, "current_edges.in_edges.is_empty()");
     let sheet = format!("P,11,0,0,0,0,0,0\n{SINK}{SINK}");
-    a_panic_in_the_rust(8, &sheet, "left == right");
+    a_panic_in_the_rust(12, &sheet, "left == right");
     // Not so if no Sink leads to one of the two that name it.
     let sheet = format!("{SCAN}P,15,0,0,0,1,0,0,0\nP,2,0,0,0,1,0,0,1\nP,15,0,0,0,1,0,0,1\n");
-    taken_by_the_rust(8, &sheet, "G,2,0,0\nG,1,0,1\nT,0,6,0\n");
+    taken_by_the_rust(12, &sheet, "G,2,0,0\nG,1,0,1\nT,0,6,0\n");
 }
 
 #[test]
@@ -133,7 +133,8 @@ P,18,5,0,0,1,0,0,0
 P,2,0,0,0,1,0,0,1
 P,2,0,0,0,1,0,0,2
 ";
-    taken_by_the_rust(8, sheet, "G,3,0,0\nG,4,0,0\nG,2,0,0\nT,0,10,0\n");
+    // The Scan is named twice.
+    taken_by_the_rust(12, sheet, "G,3,0,0\nG,4,0,0\nG,2,0,0\nT,0,10,0\n");
 
     // Of two inputs, that of the line which the first pass meets first is followed, and written into the other.
     let sheet = "\
@@ -144,8 +145,23 @@ P,18,5,0,0,1,0,0,1
 P,2,0,0,0,1,0,0,2
 P,2,0,0,0,1,0,0,3
 ";
-    taken_by_the_rust(8, sheet, "G,4,0,0\nG,5,0,0\nG,3,0,0\nT,0,10,0\n");
+    taken_by_the_rust(13, sheet, "G,4,0,0\nG,5,0,0\nG,3,0,0\nT,0,10,0\n");
     assert_eq!(lines(&unchecked(sheet).unwrap(), 'P')[2..4], ["P,18,5,0,0,1,0,0,1", "P,18,5,0,0,1,0,0,1"]);
+
+    // A Cache of another id as the common input.
+    let sheet = "\
+P,0,0,0,0,0,0,0
+P,18,6,0,0,1,0,0,0
+P,18,5,0,0,1,0,0,1
+P,18,5,0,0,1,0,0,1
+P,2,0,0,0,1,0,0,2
+P,2,0,0,0,1,0,0,3
+";
+    taken_by_the_rust(13, sheet, "G,4,0,0\nG,5,0,0\nG,3,0,0\nG,1,0,0\nT,0,12,0\n");
+
+    // One over the other.
+    let sheet = format!("{SCAN}P,18,5,0,0,1,0,0,0\nP,18,5,0,0,1,0,0,1\nP,2,0,0,0,1,0,0,2\n");
+    a_panic_in_the_rust(13, &sheet, "left == right");
 }
 
 #[test]
@@ -250,9 +266,9 @@ fn a_finished_sheet_need_not_be_acceptable() {
         let lines: Vec<&str> = finished.lines().filter(|line| !line.starts_with(['G', 'T'])).collect();
         answer(&(lines.join("\n") + "\n"))
     };
-    // A removed sort is named by none.
-    assert_eq!(again(&format!("{SCAN}P,5,0,0,0,1,0,0,0\nP,2,0,0,0,1,0,0,1\n")), "R,8\n");
+    // What a removed sort names is named twice.
+    assert_eq!(again(&format!("{SCAN}P,5,0,0,0,1,0,0,0\nP,2,0,0,0,1,0,0,1\n")), "R,12\n");
     // The child of a copied record is named twice.
     let exprs = "E,0,0,1,0\nE,7,0,1,0,0\nE,9,0,1,0,1\n";
-    assert_eq!(again(&format!("{exprs}{SCAN}P,3,0,0,0,1,1,0,0,2\nP,2,0,0,0,1,0,0,1\n")), "R,8\n");
+    assert_eq!(again(&format!("{exprs}{SCAN}P,3,0,0,0,1,1,0,0,2\nP,2,0,0,0,1,0,0,1\n")), "R,12\n");
 }

@@ -53,6 +53,14 @@ fn near_sheets_bring_every_refusal() {
 }
 
 #[test]
+fn uses_bring_what_near_sheets_seldom_do() {
+    let shares = shares(Family::Uses, 2_000);
+    for (number, least) in [(8, 25.0), (12, 25.0), (13, 5.0)] {
+        assert!(shares.of_answer(number) > least, "R,{number}\n{}", shares.text());
+    }
+}
+
+#[test]
 fn visits_follow_from_sinks_edges_and_removed_sorts() {
     for (_, family) in FAMILIES {
         for number in 0..1_000 {

@@ -219,19 +219,46 @@ fn references() {
 
 #[test]
 fn uses() {
-    // An E line unnamed, named twice by one list, by two steps, by a line and a step.
+    // An E line unnamed, named twice by one list, by two steps, by a line and a step, by one line.
     refused(8, &format!("{COLUMN}{SCAN}{SINK}"));
-    refused(8, &format!("{COLUMN}{SCAN}P,3,0,0,0,1,2,0,0,0,0\nP,2,0,0,0,1,0,0,1\n"));
-    refused(8, &format!("{COLUMN}{SCAN}P,3,0,0,0,1,1,0,0,0\nP,3,0,0,0,1,1,0,1,0\nP,2,0,0,0,1,0,0,2\n"));
-    refused(8, &format!("{COLUMN}E,7,0,1,0,0\n{SCAN}P,3,0,0,0,1,2,0,0,0,1\nP,2,0,0,0,1,0,0,1\n"));
-    refused(8, &format!("{COLUMN}E,5,0,1,0,0,0\n{SCAN}P,3,0,0,0,1,1,0,0,1\nP,2,0,0,0,1,0,0,1\n"));
+    refused(12, &format!("{COLUMN}{SCAN}P,3,0,0,0,1,2,0,0,0,0\nP,2,0,0,0,1,0,0,1\n"));
+    refused(12, &format!("{COLUMN}{SCAN}P,3,0,0,0,1,1,0,0,0\nP,3,0,0,0,1,1,0,1,0\nP,2,0,0,0,1,0,0,2\n"));
+    refused(12, &format!("{COLUMN}E,7,0,1,0,0\n{SCAN}P,3,0,0,0,1,2,0,0,0,1\nP,2,0,0,0,1,0,0,1\n"));
+    refused(12, &format!("{COLUMN}E,5,0,1,0,0,0\n{SCAN}P,3,0,0,0,1,1,0,0,1\nP,2,0,0,0,1,0,0,1\n"));
     // A step unnamed or named twice; a sheet without a Sink.
     refused(8, &format!("{SCAN}{SCAN}{SINK}"));
-    refused(8, &format!("{SCAN}{SINK}{SINK}"));
+    refused(12, &format!("{SCAN}{SINK}{SINK}"));
     refused(8, SCAN);
-    // A Cache unnamed, and two with one id.
+    // A Cache unnamed.
     refused(8, &format!("{SCAN}P,18,1,0,0,1,0,0,0\n"));
-    refused(8, &format!("{SCAN}P,18,1,0,0,1,0,0,0\nP,18,1,0,0,1,0,0,1\nP,2,0,0,0,1,0,0,2\n"));
+}
+
+#[test]
+fn the_first_line_named_wrongly_decides() {
+    let select = |entries: &str| format!("{COLUMN}{COLUMN}{SCAN}P,3,0,0,0,1,2,0,0,{entries}\nP,2,0,0,0,1,0,0,1\n");
+    refused(0, &select("0,1"));
+    refused(12, &select("0,0"));
+    refused(8, &select("1,1"));
+    // An E line before any P line, whichever of the two is unused and whichever used twice.
+    refused(12, &format!("{COLUMN}{SCAN}{SCAN}P,3,0,0,0,1,2,0,0,0,0\nP,2,0,0,0,1,0,0,2\n"));
+    refused(8, &format!("{COLUMN}{SCAN}{SINK}{SINK}"));
+    // Among P lines by index.
+    refused(12, &format!("{SCAN}{SCAN}{SINK}{SINK}"));
+    refused(8, &format!("{SCAN}{SCAN}P,2,0,0,0,1,0,0,1\nP,2,0,0,0,1,0,0,1\n"));
+}
+
+#[test]
+fn ids_of_caches() {
+    let sinks = "P,2,0,0,0,1,0,0,2\nP,2,0,0,0,1,0,0,3\n";
+    // One over the other; over two Scans; over a common Cache; over a common Scan, which is then named twice.
+    refused(13, &format!("{SCAN}P,18,1,0,0,1,0,0,0\nP,18,1,0,0,1,0,0,1\nP,2,0,0,0,1,0,0,2\n"));
+    refused(13, &format!("{SCAN}{SCAN}P,18,1,0,0,1,0,0,0\nP,18,1,0,0,1,0,0,1\n{sinks}"));
+    refused(13, &format!("{SCAN}P,18,2,0,0,1,0,0,0\nP,18,1,0,0,1,0,0,1\nP,18,1,0,0,1,0,0,1\n{sinks}"));
+    refused(12, &format!("{SCAN}P,18,1,0,0,1,0,0,0\nP,18,1,0,0,1,0,0,0\nP,2,0,0,0,1,0,0,1\nP,2,0,0,0,1,0,0,2\n"));
+    // After 8 and 12, before 9.
+    let caches = format!("P,18,1,0,0,1,0,0,0\nP,18,1,0,0,1,0,0,1\n");
+    refused(8, &format!("{SCAN}{caches}{SCAN}P,2,0,0,0,1,0,0,2\n"));
+    refused(13, &format!("E,3,0,1,0\n{SCAN}{caches}P,3,0,0,0,1,1,0,2,0\nP,2,0,0,0,1,0,0,3\n"));
 }
 
 #[test]

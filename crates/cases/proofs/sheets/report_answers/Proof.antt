@@ -4,10 +4,10 @@ use Rattle.cases.proofs.sheets.report_answers.Statement.{statement}
 use Rattle.cases.proofs.sheets.report_answers.Tie as tie
 
 abbrev Inv-loop : tie.InvT-loop
-Inv-loop answers i₀ i = i ≤ 12
+Inv-loop answers i₀ i = i ≤ 256
 
 abbrev μ-loop : tie.MeasureT-loop
-μ-loop answers i₀ i = 12 - i
+μ-loop answers i₀ i = 256 - i
 
 slice-aggregate-write-all : tie.Need-slice-aggregate-write-all Inv-loop μ-loop
 slice-aggregate-write-all c = search needs
