@@ -6,7 +6,7 @@ use native.Mathlib.Omega.{arith}
 use mathlib.Core.Bool.{Bool, true, false, not}
 use mathlib.Core.List.{List, [], _++_, map, List·Memᴰ}
 use lib.Dec.{T, leb, leb→le}
-use Rattle.plan.specs.Lists.{all?, sum, concat-map, numbered, times}
+use Rattle.plan.specs.Lists.{sum, concat-map, numbered, times}
 use Rattle.plan.specs.Sheet.{Sheet, Outcome, refused, done, _then_, refuse_when_else_, read-lines, no-lines, too-long, no-plan, parts, read}
 use Rattle.plan.specs.Faults.{Indexed, lines, references-right, uses, named-right, use-number, id-right, field-right, reference-fault, use-fault, id-fault, field-fault, passes, first-fault, refused-by, checked}
 use Rattle.plan.specs.Graph.{graph}
@@ -32,7 +32,7 @@ unfolding refuse_when_else_
 refused-when k true o e = inl (same-number e, tt)
 refused-when k false o e = inr (tt, e)
 
--- The passes: the test of each tells the lines that are wrong, and gives their numbers -----------------------------------------------------------------------------
+-- The passes: the test of each tells the lines that are wrong, and gives their numbers -------------------------------------------------
 
 module _ (sh : Sheet) where
   references-pass : Pass (references-right sh) (Refers-wrong sh) (λ _. 7) (lines sh)

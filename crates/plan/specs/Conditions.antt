@@ -60,7 +60,7 @@ pub record At-end (from : Sheet) (ls : List (List ℕ)) (last : List ℕ) (sh : 
   pub lines : ls ≡ before ++ (last ∷ [])
   pub reads : Read-into from before sh
 
--- A line of a sheet that is read: 7, 8, 12, 13, 9 --------------------------------------------------------------------------------------
+-- A line of a sheet that is read: 7, 8, 12, 13, 9 ------------------------------------------------------------------------------
 
 -- it refers to what it may not: a child or an input that is not on an earlier line, a Sink as input, an expression that is no E line
 pub data Refers-wrong (sh : Sheet) : Indexed → Type 0 where

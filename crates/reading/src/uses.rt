@@ -102,7 +102,7 @@ fn count_ids(counts: &mut [u8; 256], steps: &[u8; 1024], n: usize)
     }
 }
 
-// A line that is named wrongly: nothing names it, or it is named more than once.
+// The number of a line that is named wrongly: nothing names it, or it is named more than once.
 fn use_number(count: u8) -> u8
     ensures { λ r. ⌜ r ≡ use-number count ⌝ }
 {
@@ -194,8 +194,8 @@ fn all_ids_once(counts: &[u8; 256], steps: &[u8; 1024], n: usize) -> bool
     true
 }
 
-// The pass over the E lines.
-pub fn exprs_fault(exprs: &[u8; 2048], count: usize, steps: &[u8; 1024], n: usize) -> u8
+// The pass over the E lines, 0 if none is at fault.
+fn exprs_fault(exprs: &[u8; 2048], count: usize, steps: &[u8; 1024], n: usize) -> u8
     requires { ⌜ Exprs-held (now exprs) count × Steps-held (now steps) n ⌝ }
     ensures { λ r. ⌜ r ≡ exprs-fault (sheet (now (exprs .entry)) count (now (steps .entry)) n) ⌝ }
 {
@@ -205,8 +205,8 @@ pub fn exprs_fault(exprs: &[u8; 2048], count: usize, steps: &[u8; 1024], n: usiz
     first_expr_fault(&counts, count)
 }
 
-// The pass over the P lines.
-pub fn steps_fault(steps: &[u8; 1024], n: usize) -> u8
+// The pass over the P lines, in the same way.
+fn steps_fault(steps: &[u8; 1024], n: usize) -> u8
     requires { ⌜ Steps-held (now steps) n ⌝ }
     ensures { λ r. ⌜ r ≡ steps-fault (stored-steps (now (steps .entry)) n) ⌝ }
 {
@@ -215,7 +215,7 @@ pub fn steps_fault(steps: &[u8; 1024], n: usize) -> u8
     first_step_fault(&counts, steps, n)
 }
 
-// The first line that is named wrongly: 8 if nothing names it, 12 if it is named more than once, 0 if there is none.
+// The whole pass, E lines before P lines: 8 or 12 by the first line at fault, 0 if there is none.
 pub fn uses_fault(exprs: &[u8; 2048], count: usize, steps: &[u8; 1024], n: usize) -> u8
     requires { ⌜ Exprs-held (now exprs) count × Steps-held (now steps) n ⌝ }
     ensures { λ r. ⌜ r ≡ uses-fault (sheet (now (exprs .entry)) count (now (steps .entry)) n) ⌝ }
