@@ -256,7 +256,7 @@ fn ids_of_caches() {
     refused(13, &format!("{SCAN}P,18,2,0,0,1,0,0,0\nP,18,1,0,0,1,0,0,1\nP,18,1,0,0,1,0,0,1\n{sinks}"));
     refused(12, &format!("{SCAN}P,18,1,0,0,1,0,0,0\nP,18,1,0,0,1,0,0,0\nP,2,0,0,0,1,0,0,1\nP,2,0,0,0,1,0,0,2\n"));
     // After 8 and 12, before 9.
-    let caches = format!("P,18,1,0,0,1,0,0,0\nP,18,1,0,0,1,0,0,1\n");
+    let caches = "P,18,1,0,0,1,0,0,0\nP,18,1,0,0,1,0,0,1\n";
     refused(8, &format!("{SCAN}{caches}{SCAN}P,2,0,0,0,1,0,0,2\n"));
     refused(13, &format!("E,3,0,1,0\n{SCAN}{caches}P,3,0,0,0,1,1,0,2,0\nP,2,0,0,0,1,0,0,3\n"));
 }

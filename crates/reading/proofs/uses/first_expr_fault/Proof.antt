@@ -34,7 +34,7 @@ returns c =
     let n = c .before .before .before .before .before .args .n in
     λ es names k.
     fault-found (expr-fault-in names) (stored-expr es) n (l .i) (c .before .before .before .loop-test .taken)
-    (expr-fault-is _ names k (stored-expr es (l .i)) (l .i) (omega arith) (c .before .expr-fault .ensures)) (c .if1 .taken) (l .inv .1 es names k)
+    (expr-fault-is _ names k (stored-expr es (l .i)) (l .i) (omega arith) (c .before .expr-fault .ensures)) (λ e. omega arith) (l .inv .1 es names k)
 
 add-i : tie.Need-add-i Inv-loop μ-loop
 add-i c = omega arith
@@ -49,7 +49,7 @@ loop-again c =
       omega arith,
       λ es names k.
           fault-none (expr-fault-in names) (stored-expr es) n (l .i) (c .before .before .before .loop-test .taken)
-          (expr-fault-is _ names k (stored-expr es (l .i)) (l .i) (omega arith) (c .before .expr-fault .ensures)) (c .if1 .left) (l .inv .1 es names k),
+          (expr-fault-is _ names k (stored-expr es (l .i)) (l .i) (omega arith) (c .before .expr-fault .ensures)) (omega arith) (l .inv .1 es names k),
     )
 
 returns-2 : tie.Need-returns-2 Inv-loop μ-loop

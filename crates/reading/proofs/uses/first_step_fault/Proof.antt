@@ -40,7 +40,7 @@ returns c =
     let a = c .before .before .before .before .before .before .args in
     λ names k.
     fault-found (step-fault-in names) (stored-step (a .steps .now)) (a .n) (l .i) (c .before .before .before .before .loop-test .taken)
-    (step-fault-is _ names k (a .steps .now) (l .i) (omega arith) (c .before .step-fault .ensures)) (c .if1 .taken) (l .inv .1 names k)
+    (step-fault-is _ names k (a .steps .now) (l .i) (omega arith) (c .before .step-fault .ensures)) (λ e. omega arith) (l .inv .1 names k)
 
 add-i : tie.Need-add-i Inv-loop μ-loop
 add-i c = omega arith
@@ -55,7 +55,7 @@ loop-again c =
       omega arith,
       λ names k.
           fault-none (step-fault-in names) (stored-step (a .steps .now)) (a .n) (l .i) (c .before .before .before .before .loop-test .taken)
-          (step-fault-is _ names k (a .steps .now) (l .i) (omega arith) (c .before .step-fault .ensures)) (c .if1 .left) (l .inv .1 names k),
+          (step-fault-is _ names k (a .steps .now) (l .i) (omega arith) (c .before .step-fault .ensures)) (omega arith) (l .inv .1 names k),
     )
 
 returns-2 : tie.Need-returns-2 Inv-loop μ-loop
