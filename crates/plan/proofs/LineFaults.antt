@@ -98,9 +98,9 @@ module _ (sh : Sheet) where
 
 -- 8 and 12 ---------------------------------------------------------------------------------------------------------------------
 
-named-more : (k : ℕ) → 1 < k → use-number k ≡ 12
-named-more zero h = absurd (omega arith)
-named-more (suc k) h = refl
+pub reused-number : (k : ℕ) → k ≢ 0 → use-number k ≡ 12
+reused-number zero h = absurd (h refl)
+reused-number (suc k) h = refl
 
 never-or-often : (k : ℕ) → T (not (eqb k 1)) → (k ≡ 0) ⊎ (1 < k)
 never-or-often zero t = inl refl
@@ -152,8 +152,8 @@ module _ (sh : Sheet) where
   unnamed-number _ (Unnamed.step h u) = ap use-number u
 
   pub often-number : (l : Indexed) → Named-often sh l → use-number (uses sh l) ≡ 12
-  often-number _ (Named-often.expr {i} u) = named-more (times i (exprs-named sh)) u
-  often-number _ (Named-often.step {n} h c u) = named-more (times n (named (sh .steps))) u
+  often-number _ (Named-often.expr {i} u) = reused-number (times i (exprs-named sh)) (λ z. omega arith)
+  often-number _ (Named-often.step {n} h c u) = reused-number (times n (named (sh .steps))) (λ z. omega arith)
 
   pub uses-given : (l : Indexed) → use-number (uses sh l) ≢ 0
   uses-given l = by (uses sh l)

@@ -55,11 +55,11 @@ at-most zero = refl
 at-most (suc zero) = refl
 at-most (suc (suc n)) = sym (lt-leb (suc (suc n)) 1 (omega arith))
 
-same-number : (n : ℕ) → use-number (capped n) ≡ use-number n
+capped-number : (n : ℕ) → use-number (capped n) ≡ use-number n
 unfolding capped
-same-number zero = refl
-same-number (suc zero) = refl
-same-number (suc (suc n)) = refl
+capped-number zero = refl
+capped-number (suc zero) = refl
+capped-number (suc (suc n)) = refl
 
 times-one : (i q : ℕ) (names : List ℕ) → times i (names ++ (q ∷ [])) ≡ times i names + (if eqb i q then 1 else 0)
 unfolding sum
@@ -178,12 +178,12 @@ module _ (c names : List ℕ) (k : Counted c names) where
   once-is i h = ap (λ n. eqb n 1) (k .each i h) ∙ once (times i names)
 
   pub expr-fault-is : (e : Expr) (i : ℕ) {r : ℕ} → i < 256 → r ≡ (if eqb (getD c i 0) 1 then 0 else use-number (getD c i 0)) → r ≡ expr-fault-in names (i, e)
-  expr-fault-is e i h p = p ∙ rw (k .each i h, once (times i names), same-number (times i names))
+  expr-fault-is e i h p = p ∙ rw (k .each i h, once (times i names), capped-number (times i names))
 
   pub step-fault-is : (ps : List ℕ) (i : ℕ) {r : ℕ} → i < 256
       → r ≡ (if used (getD ps (i * 32) 0) (getD c i 0) then 0 else use-number (getD c i 0)) → r ≡ step-fault-in names (i, stored-step ps i)
   step-fault-is ps i h p =
-      p ∙ rw (k .each i h, at-least (times i names), at-most (times i names), same-number (times i names), step-kind ps i)
+      p ∙ rw (k .each i h, at-least (times i names), at-most (times i names), capped-number (times i names), step-kind ps i)
       (sym (rw (step-kind-is (getD ps (i * 32) 0) 2 (omega arith) (omega arith), step-kind-is (getD ps (i * 32) 0) 18 (omega arith) (omega arith))))
 
 pub id-is : (ps names : List ℕ) (i : ℕ) {r : Bool} → r ≡ (not (eqb (getD ps (i * 32) 0) 18) || eqb (times (getD ps (i * 32 + 1) 0) names) 1) → r ≡ id-once-in names (i, stored-step ps i)
@@ -225,10 +225,6 @@ module _ (es ps : List ℕ) (n m : ℕ) where
 
 pub up : (c : List ℕ) (at q : ℕ) → at ≡ q → q < 256 → getD c at 0 < 2 → (names : List ℕ) → Counted c names → Counted (set c at (getD c at 0 + 1)) (names ++ (q ∷ []))
 up c at q e h l names k = rw e (counted-up c q names h k (rw e at l))
-
-pub named-already : (k : ℕ) → (k ≡ 0 → ⊥) → 12 ≡ use-number k
-named-already zero h = absurd (h refl)
-named-already (suc k) h = refl
 
 pub full : (c : List ℕ) (at q : ℕ) → at ≡ q → q < 256 → 2 ≤ getD c at 0 → (names : List ℕ) → Counted c names → Counted c (names ++ (q ∷ []))
 full c at q e h l names k = counted-full c q names h k (rw e at l)
