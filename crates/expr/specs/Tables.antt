@@ -10,7 +10,7 @@ use Rattle.plan.specs.Lists.{if_then_else_}
 use Rattle.plan.specs.FunctionFlags.{observes-input-order, terminates-input-order, non-order-producing}
 use Rattle.plan.specs.Kinds.{aexpr}
 use Rattle.plan.specs.Sheet.{Expr}
-use Rattle.plan.specs.Orders.{∅, INDEPENDENT, _∪_, is-empty, no-orders, single}
+use Rattle.plan.specs.Orders.{∅, _∪_, is-empty, no-orders, single}
 use Rattle.plan.specs.Look as look
 use Rattle.expr.specs.declared.after.After.{After}
 use Rattle.expr.specs.declared.after.Output.{Output}
@@ -21,7 +21,7 @@ abbrev pub output-of : ObservableOrders → Output → ObservableOrders → Obse
 output-of same Output.Same i = same
 output-of same Output.Empty i = ∅
 output-of same Output.Input i = i
-output-of same Output.InputOrIndependent i = i ∪ INDEPENDENT
+output-of same (Output.Function t n) i = look.function-output t n i
 
 abbrev pub after-of : After → look.After
 after-of v = look.twice (v .observes) (v .again) (v .answer) (output-of (v .answer) (v .«answer_again»)) (v .caches)

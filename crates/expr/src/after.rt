@@ -2,7 +2,7 @@
 ghost use mathlib.Core.Path.{_≡_};
 ghost use Prim.Native.Nat.{_<_};
 ghost use Rattle.plan.specs.declared.orders.ObservableOrders.{ObservableOrders};
-ghost use Rattle.plan.specs.Look.{twice, once, plain, after, function-output};
+ghost use Rattle.plan.specs.Look.{twice, once, plain, after};
 ghost use Rattle.storage.specs.Exprs.{record-of};
 ghost use Rattle.expr.specs.Tables.{output-of, after-of, ternary-output, projected-row, filter-row, ternary-row, function-row, answers, Leaf};
 use crate::record::first_child;
@@ -10,18 +10,20 @@ use crate::seen::Seen;
 use crate::seen::pick;
 use plan::aexpr::AExpr;
 use plan::function_flags::FunctionFlags;
+use plan::function_output::function_output;
 use plan::orders::ExprOrderAcc;
 use plan::orders::ObservableOrders as O;
 use storage::exprs::ExprRecord;
 
-// An answer from that of the second look. It takes a byte, so that After takes no more than eight.
+// An answer from that of the second look.
 pub enum Output {
     // As where no child is looked at again.
     Same,
     Empty,
     // The second look's own.
     Input,
-    InputOrIndependent,
+    // A Function's, by terminates_input_order and non_order_producing.
+    Function(bool, bool),
 }
 
 impl Output {
@@ -33,7 +35,7 @@ impl Output {
             Output::Same => same,
             Output::Empty => O::EMPTY,
             Output::Input => input,
-            Output::InputOrIndependent => input.union(O::INDEPENDENT),
+            Output::Function(t, n) => function_output(t, n, input),
         }
     }
 }
@@ -48,40 +50,6 @@ pub struct After {
     pub answer_again: Output,
     // cache_output!
     pub caches: bool,
-}
-
-// A Function's output_observable.
-fn function_output(terminates_input_order: bool, non_order_producing: bool, input_order: O) -> O
-    ensures { λ r. ⌜ r ≡ function-output «terminates_input_order» «non_order_producing» «input_order» ⌝ }
-{
-    if terminates_input_order {
-        if non_order_producing {
-            O::EMPTY
-        } else {
-            O::INDEPENDENT
-        }
-    } else {
-        if non_order_producing {
-            input_order
-        } else {
-            input_order.union(O::INDEPENDENT)
-        }
-    }
-}
-
-// And from the second look: where the input's order is terminated it is the same.
-fn function_again(terminates_input_order: bool, non_order_producing: bool) -> Output
-    ensures { λ r. ⌜ ((input : ObservableOrders) → output-of (function-output «terminates_input_order» «non_order_producing» input) r ≡ function-output «terminates_input_order» «non_order_producing») ⌝ }
-{
-    if terminates_input_order {
-        Output::Same
-    } else {
-        if non_order_producing {
-            Output::Input
-        } else {
-            Output::InputOrIndependent
-        }
-    }
 }
 
 // A Ternary's: the predicate's order is not the output's.
@@ -168,7 +136,7 @@ impl After {
             observed.union(pick(mixed, acc, O::EMPTY)),
             again,
             function_output(terminates, non_producing, acc),
-            function_again(terminates, non_producing),
+            Output::Function(terminates, non_producing),
             mixed | again,
         )
     }

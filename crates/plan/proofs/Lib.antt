@@ -4,6 +4,7 @@ pub mod Booleans
 pub mod Counts
 pub mod Outcomes
 pub mod KindNumbers
+pub mod FunctionOutput
 pub mod Decimals
 pub mod Settling
 pub mod FaultLaws

@@ -5,6 +5,7 @@ pub mod choice; // choice.rt: a choice between two bytes
 pub mod distinct; // distinct.rt: UniqueKeepStrategy
 pub mod function_flags; // function_flags.rt: FunctionFlags
 pub mod function_ir; // function_ir.rt: FunctionIR
+pub mod function_output; // function_output.rt: a Function's output_observable, from its input_order
 pub mod ir; // ir.rt: IR
 pub mod join; // join.rt: JoinType, MaintainOrderJoin
 pub mod looks; // looks.rt: Before, what a look reads before it goes along the children

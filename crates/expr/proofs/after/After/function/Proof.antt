@@ -23,9 +23,6 @@ union-requires c κs = search needs
 function-output-requires : tie.Need-function-output-requires
 function-output-requires c κs = search needs
 
-function-again-requires : tie.Need-function-again-requires
-function-again-requires c κs = search needs
-
 twice-requires : tie.Need-twice-requires
 twice-requires c κs = search needs
 
@@ -33,14 +30,13 @@ returns : tie.Need-returns
 returns c =
     rw (
       c .twice .ensures,
-      c .before .before .function-output .ensures,
-      c .before .function-again .ensures (c .before .before .before .before .before .before .before .before .before .before .before .args .x .acc),
-      c .before .before .before .union .ensures,
-      c .before .before .before .before .pick2 .ensures,
-      c .before .before .before .before .before .pick .ensures,
-      c .before .before .before .before .before .before .before .before .non-order-producing .ensures,
-      c .before .before .before .before .before .before .before .before .before .terminates-input-order .ensures,
-      c .before .before .before .before .before .before .before .before .before .before .observes-input-order .ensures,
+      c .before .function-output .ensures,
+      c .before .before .union .ensures,
+      c .before .before .before .pick2 .ensures,
+      c .before .before .before .before .pick .ensures,
+      c .before .before .before .before .before .before .before .non-order-producing .ensures,
+      c .before .before .before .before .before .before .before .before .terminates-input-order .ensures,
+      c .before .before .before .before .before .before .before .before .before .observes-input-order .ensures,
     )
 
 pub function-spec : {M : Type 1} → statement M
@@ -54,6 +50,5 @@ function-spec =
     pick-requires-2
     union-requires
     function-output-requires
-    function-again-requires
     twice-requires
     returns)

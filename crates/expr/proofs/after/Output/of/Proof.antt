@@ -11,11 +11,11 @@ enum-told-2 c = search needs
 enum-told-3 : tie.Need-enum-told-3
 enum-told-3 c = search needs
 
-enum-told-4 : tie.Need-enum-told-4
-enum-told-4 c = search needs
+enum-known-self : tie.Need-enum-known-self
+enum-known-self c = search needs
 
-union-requires : tie.Need-union-requires
-union-requires c κs = search needs
+function-output-requires : tie.Need-function-output-requires
+function-output-requires c κs = search needs
 
 returns : tie.Need-returns
 returns c = search needs
@@ -27,7 +27,7 @@ returns-3 : tie.Need-returns-3
 returns-3 c = search needs
 
 returns-4 : tie.Need-returns-4
-returns-4 c = rw (c .union .ensures, c .before .enum-told4 .given .1)
+returns-4 c = rw (c .function-output .ensures, c .before .before .self .given .1)
 
 pub of-spec : {M : Type 1} → statement M
 of-spec =
@@ -36,8 +36,8 @@ of-spec =
     enum-told
     enum-told-2
     enum-told-3
-    enum-told-4
-    union-requires
+    enum-known-self
+    function-output-requires
     returns
     returns-2
     returns-3
