@@ -88,8 +88,10 @@ PLANS = {
     "case_a": A,
     # one ordered child is looked at twice, the second time to take its order: the looks grow with the square of the height
     **{f"functions_{length:03}": chain(length, 19, 4) for length in (2, 8, 16, 32, 64, MOST_EXPRS)},
-    # the same with one flag more, NON_ORDER_PRODUCING
+    # the same with NON_ORDER_PRODUCING, with TERMINATES_INPUT_ORDER and with both: the four pairs that decide a Function's result
     "functions_128_that_make_no_order": chain(MOST_EXPRS, 19, 36),
+    "functions_128_that_end_order": chain(MOST_EXPRS, 19, 12),
+    "functions_128_that_end_order_and_make_none": chain(MOST_EXPRS, 19, 44),
     "struct_evals_128": chain(MOST_EXPRS, 15),
     # two ordered children are looked at once, and so is that of a Cast: high trees with few looks
     "struct_evals_127_by_evaluation": struct_evals(COLUMN, by_first=False),
