@@ -76,7 +76,8 @@ def declared():
                 continue
             if is_function_proof(path):
                 continue
-            bound |= {w for w in LOCAL.findall(line)}
+            # Behind a dot alone stands a library's name, as in Mem.not-nil.
+            bound |= {m.group(0) for m in LOCAL.finditer(line) if line[: m.start()][-1:] != "."}
             m = DECLARED.match(line)
             if not m or "module" in m.group(2).split():
                 continue

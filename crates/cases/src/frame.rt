@@ -6,7 +6,7 @@ ghost use Rattle.cases.specs.Within.{Within};
 
 // Where the parts of a case end, in the bytes after the lengths. `ended` is set where the file has no case more, and `whole`
 // where it has all of this one.
-#[derive(Drop)]
+#[derive(Clone, Copy)]
 pub struct Parts {
     pub ended: bool,
     pub whole: bool,

@@ -79,7 +79,7 @@ fn records_agree(recs: &[u8; 2048], n: usize, line: [u8; 128], off: [bool; 128],
 }
 
 // What a case says of its list.
-#[derive(Drop)]
+#[derive(Clone, Copy)]
 struct Case {
     looks: usize,
     allow: bool,

@@ -1,6 +1,8 @@
 // Runs the frozen cases of each folder of data/, and prints for each how many agree.
 // The scripts oracle/freeze_*.py make the data. Each folder has a module with its comparison, of the same name but for `read`:
 // `reading` is a crate.
+#![tactic(auto)]
+
 ghost use Rattle.cases.specs.Within.{Within};
 
 use crate::frame::{Parts, read_case};
@@ -14,7 +16,7 @@ mod read;
 mod score;
 mod sheets;
 
-#[derive(Drop)]
+#[derive(Clone, Copy)]
 enum Folder {
     Reading,
     Graph,

@@ -4,7 +4,7 @@ ghost use Rattle.std.specs.Prelude.{◌≡◌, ◌+◌, ◌<◌, ◌≤◌};
 use libc::STDOUT_FILENO;
 
 // How many cases there are, how many of them agree, and the first that does not, counted from 1.
-#[derive(Drop)]
+#[derive(Clone, Copy)]
 pub struct Score {
     pub all: usize,
     pub agree: usize,

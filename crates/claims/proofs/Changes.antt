@@ -40,7 +40,7 @@ pub earlier_of : (es : List Expr) → Formed es → ChildrenEarlier es
 earlier_of es g p = (g p).earlier
 
 pub nothing_fits : (p : ℕ) → Fits p no_expr
-nothing_fits p = record { earlier = λ c m. absurd (Memᴰ.not_nil m); input = λ t. absurd t }
+nothing_fits p = record { earlier = λ c m. absurd (Memᴰ.not-nil m); input = λ t. absurd t }
 
 -- what passes a test that the record past the end fails is in the arena
 pub in_arena : (test : Expr → Bool) → (T (test no_expr) → ⊥) → (es : List Expr) (p : ℕ) → T (test (expr_at es p)) → p < length es
@@ -123,7 +123,7 @@ pub data Changes (end : List Expr) : List Expr → Type 0 where
   takes_input : {es : List Expr} (p : ℕ) → T (sort? (expr_at es p)) → Changes end (with_input_at es p) → Changes end es
   goes_off : {es : List Expr} (p : ℕ) → T (implode? (expr_at es p)) → Changes end (off_at es p) → Changes end es
 
-pub changes_on : {a b c : List Expr} → Changes b a → Changes c b → Changes c a
+pub changes_on : {b a c : List Expr} → Changes b a → Changes c b → Changes c a
 changes_on no_change f = f
 changes_on (takes_input p t e) f = takes_input p t (changes_on e f)
 changes_on (goes_off p t e) f = goes_off p t (changes_on e f)

@@ -70,7 +70,7 @@ module _ (ps : List Step) (plan : Plan ps) where
       ])
     where
       in_range : (m : ℕ) (b : Bool) → Memᴰ m (if b then [] else (step_at ps n).inputs) → m < length ps
-      in_range m true j = absurd (Memᴰ.not_nil j)
+      in_range m true j = absurd (Memᴰ.not-nil j)
       in_range m false j = input_there ps plan n m j
 
   -- The second pass ------------------------------------------------------------------------------------------------------------------------------
@@ -96,4 +96,4 @@ module _ (ps : List Step) (plan : Plan ps) where
     where
       in_range : (m : ℕ) (b : Bool) → Memᴰ m (if b then (step_at ps n).inputs else []) → m < length ps
       in_range m true j = input_there ps plan n m j
-      in_range m false j = absurd (Memᴰ.not_nil j)
+      in_range m false j = absurd (Memᴰ.not-nil j)

@@ -11,7 +11,7 @@ use lib.ListN.{length, get_or, set, get_or-eq_default}
 module _ {A : Type 0} where
   -- a member stands somewhere
   pub place_of : (l : List A) (d a : A) → Memᴰ a l → (i : ℕ) × (i < length l) × (get_or l i d ≡ a)
-  place_of [] d a m = absurd (Memᴰ.not_nil m)
+  place_of [] d a m = absurd (Memᴰ.not-nil m)
   place_of (x ∷ l) d a m =
       elim (Memᴰ.cases_cons m) [
         | inl e ↦ (0, omega arith, sym e)

@@ -20,7 +20,7 @@ use Rattle.claims.proofs.ByLine as by_line
 -- one of n's id stands in the first list: what follows it does not matter
 met_front : (ps : List Step) (n m : ℕ) → T (one_id ps m n) → (l later : List ℕ) → Memᴰ m l → first_met ps (l ++ later) n ≡ first_met ps l n
 unfolding first_met
-met_front ps n m t [] later i = absurd (Memᴰ.not_nil i)
+met_front ps n m t [] later i = absurd (Memᴰ.not-nil i)
 met_front ps n m t (k ∷ l) later i = by (one_id ps k n) refl (λ j. met_front ps n m t l later j)
   where
     by : (b : Bool) → one_id ps k n ≡ b → (Memᴰ m l → first_met ps (l ++ later) n ≡ first_met ps l n)
@@ -33,7 +33,7 @@ met_front ps n m t (k ∷ l) later i = by (one_id ps k n) refl (λ j. met_front 
         ]
 
 mem_map : (f : ℕ → ℕ) (l : List ℕ) (m : ℕ) → Memᴰ m (map f l) → (q : ℕ) × Memᴰ q l × (m ≡ f q)
-mem_map f [] m i = absurd (Memᴰ.not_nil i)
+mem_map f [] m i = absurd (Memᴰ.not-nil i)
 mem_map f (x ∷ l) m i =
     elim (Memᴰ.cases_cons i) [
       | inl e ↦ (x, Memᴰ.head refl, e)

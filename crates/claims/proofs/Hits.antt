@@ -85,7 +85,7 @@ module _ (ps : List Step) (plan : Plan ps) where
       ])
     where
       in_range : (m : ℕ) (b : Bool) → Memᴰ m (if b then [] else (step_at ps n).inputs) → m < length ps
-      in_range m true j = absurd (Memᴰ.not_nil j)
+      in_range m true j = absurd (Memᴰ.not-nil j)
       in_range m false j = input_there ps plan n m j
 
   -- every root and every naming is popped

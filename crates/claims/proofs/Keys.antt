@@ -62,7 +62,7 @@ module _ (ps : List Step) where
   -- one line for one id
   met_same : (l : List ℕ) (n m : ℕ) → T (one_id ps n m) → Memᴰ n l → first_met ps l n ≡ first_met ps l m
   unfolding first_met
-  met_same [] n m t i = absurd (Memᴰ.not_nil i)
+  met_same [] n m t i = absurd (Memᴰ.not-nil i)
   met_same (k ∷ l) n m t i =
       by (one_id ps k n) (one_id ps k m) (T_eq (one_id ps k n) (one_id ps k m) (λ u. through k n m u t) (λ u. through k m n u (turned n m t))) refl
       (Memᴰ.cases_cons i) (λ j. met_same l n m t j)

@@ -34,7 +34,7 @@ pub record Logged (qs : List ℕ) (s s' : Eos) (log : List ℕ) : Type 0 where
   pub own : (v : ℕ) → Memᴰ v log → 1 ≤ sum (load (only v) s.expr_arena) qs
 
 nothing_logged : (qs : List ℕ) (s : Eos) → Logged qs s s []
-nothing_logged qs s = record { counted = omega arith; own = λ v m. absurd (Memᴰ.not_nil m) }
+nothing_logged qs s = record { counted = omega arith; own = λ v m. absurd (Memᴰ.not-nil m) }
 
 -- first at trees of l, then at trees of m, both parts of qs
 logged_both : {s s₁ s₂ : Eos} {log log₁ : List ℕ} (l m qs : List ℕ) → Formed s.expr_arena → Changes s₁.expr_arena s.expr_arena
@@ -98,7 +98,7 @@ module _ (rec : Look) (made : Made) (B : Bounded rec) (L : Logs rec made) where
       let a₃ = again_logged v.again k.1 qs k.2 (changed_formed c₂ g)
       (λ t. single_of_children rec e b s (looks_again e allow s.struct_field_ordering k.0 k.1 e.kind t).one) in
       let whole = logged_both qs qs qs g c₂ (λ w. le_refl _) (λ w. le_refl _) (logged_both (take 1 qs) (drop 1 qs) qs g c (in_take qs) (in_drop qs) a₁ a₂) a₃ in
-      record { counted = whole.counted; own = whole.own_val }
+      record { counted = whole.counted; own = whole.own }
     where
       in_take : (qs : List ℕ) (w : ℕ → ℕ) → sum w (take 1 qs) ≤ sum w qs
       in_take [] w = omega arith

@@ -28,14 +28,14 @@ use Rattle.claims.proofs.Starts.{sort_key, named_once, one_edge, named_by, consu
 
 named_in : (n : ℕ) (ps : List Step) (c : ℕ) → Memᴰ n (step_at ps c).inputs → 1 ≤ times n (named ps)
 unfolding named concat_map
-named_in n [] c m = absurd (mathlib.Core.List.Memᴰ.not_nil m)
+named_in n [] c m = absurd (mathlib.Core.List.Memᴰ.not-nil m)
 named_in n (x ∷ ps) zero m = omega (arith, times_of n x.inputs m, sum_append (only n) x.inputs (named ps))
 named_in n (x ∷ ps) (suc c) m = omega (arith, named_in n ps c m, sum_append (only n) x.inputs (named ps))
 
 -- a step that two steps name is named twice
 named_twice : (n : ℕ) (ps : List Step) (c c' : ℕ) → Memᴰ n (step_at ps c).inputs → Memᴰ n (step_at ps c').inputs → c ≢ c' → 2 ≤ times n (named ps)
 unfolding named concat_map
-named_twice n [] c c' m m' h = absurd (mathlib.Core.List.Memᴰ.not_nil m)
+named_twice n [] c c' m m' h = absurd (mathlib.Core.List.Memᴰ.not-nil m)
 named_twice n (x ∷ ps) zero zero m m' h = absurd (h refl)
 named_twice n (x ∷ ps) zero (suc c') m m' h =
     omega (arith, times_of n x.inputs m, named_in n ps c' m', sum_append (only n) x.inputs (named ps))

@@ -122,7 +122,7 @@ made_for n k ms = map (λ (j, m). record { consumer = n; slot = j; producer = so
 new_edge : (n k : ℕ) (ms : List ℕ) (d : Edge) → Memᴰ d (made_for n k ms)
     → (j : ℕ) × (j < length ms) × (d.consumer ≡ n) × (d.slot ≡ k + j) × (d.producer ≡ some (get_or ms j 0))
 unfolding numbered
-new_edge n k [] d i = absurd (Memᴰ.not_nil i)
+new_edge n k [] d i = absurd (Memᴰ.not-nil i)
 new_edge n k (x ∷ ms) d i =
     elim (Memᴰ.cases_cons i) [
       | inl e ↦ (0, omega arith, ap (λ (y : Edge). y.consumer) e, omega (arith, ap (λ (y : Edge). y.slot) e), ap (λ (y : Edge). y.producer) e)
@@ -279,7 +279,7 @@ module _ (ps : List Step) (plan : Plan ps) where
     where
       in_range : (m : ℕ) (b : Bool) → Memᴰ m (if b then (step_at ps n).inputs else []) → m < length ps
       in_range m true j = input_there ps plan n m j
-      in_range m false j = absurd (Memᴰ.not_nil j)
+      in_range m false j = absurd (Memᴰ.not-nil j)
 
   -- before the first place nothing is opened: a Cache is named
   pub none_opened : (n : ℕ) → opened ps [] n ≡ false
@@ -294,7 +294,7 @@ module _ (ps : List Step) (plan : Plan ps) where
   unfolding graph sum
   result =
       ordered (most_places ps) [] (sinks ps) [] (omega arith) (λ w. omega (arith, followed_none w ps (opened ps []) none_opened))
-      (root_there ps plan) (record { placed = λ d i. absurd (Memᴰ.not_nil i); leaving = λ n. omega arith; entering = λ n h l. refl; single = λ c k. omega arith })
+      (root_there ps plan) (record { placed = λ d i. absurd (Memᴰ.not-nil i); leaving = λ n. omega arith; entering = λ n h l. refl; single = λ c k. omega arith })
 
 -- The visiting list and the edges ---------------------------------------------------------------------------------------------------------
 
@@ -323,7 +323,7 @@ graph_ordered ps plan =
       reversed = i;
       placed_all = λ w. rw i (sum_reverse w p ∙ all w);
       made = λ d m. (g.placed d m).made;
-      after = λ d m k e. elim ((g.placed d m).after k e) [ inl w ↦ absurd (Memᴰ.not_nil w) | inr l ↦ l ];
+      after = λ d m k e. elim ((g.placed d m).after k e) [ inl w ↦ absurd (Memᴰ.not-nil w) | inr l ↦ l ];
       leaving = λ n. omega (arith, g.leaving n, times_in n);
       entering = λ n h l. g.entering n h l ∙ sym (times_in n);
       single = g.single;

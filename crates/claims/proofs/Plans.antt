@@ -109,7 +109,7 @@ module _ (sh : Sheet) (w : WellFormed sh) where
           let ok = of_all (λ m. ltb m n && not (same_ir (step_at ps m).kind IR.Sink)) (step_at ps n).inputs all m i in
           let before = leb→le (suc m) n (and_left (ltb m n) (not sink) ok) in
           (omega arith, before, false_of sink (λ s. T_not sink (and_right (ltb m n) (not sink) ok) s))
-      by (no h) = absurd (Memᴰ.not_nil (subst (λ (x : Step). Memᴰ m x.inputs) (get_or-eq_default ps no_step (omega arith)) i))
+      by (no h) = absurd (Memᴰ.not-nil (subst (λ (x : Step). Memᴰ m x.inputs) (get_or-eq_default ps no_step (omega arith)) i))
 
   -- what is not there, or is a Sink, is not named
   unnamed : (n : ℕ) → ¬ ((n < length ps) × (same_ir (step_at ps n).kind IR.Sink ≡ false)) → times n (named ps) ≡ 0

@@ -147,6 +147,7 @@ replaced_spent rec B false p s₀ g t k = absurd t
 -- a member's part may be put for another
 swapped : (v w : ℕ → ℕ) → ((q : ℕ) → v q ≤ w q) → (qs : List ℕ) (c : ℕ) → Memᴰ c qs → sum v qs + w c ≤ sum w qs + v c
 unfolding sum
+swapped v w h [] c m = elim m [ ]
 swapped v w h (q ∷ qs) c (Memᴰ.head e) = omega (arith, ap v e, ap w e, sum_le v w qs (λ a _. h a))
 swapped v w h (q ∷ qs) c (Memᴰ.tail m) = omega (arith, swapped v w h qs c m, h q)
 

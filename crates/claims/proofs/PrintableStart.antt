@@ -55,7 +55,7 @@ module _ (ps : List Step) (plain : Every Plain no_step ps) (key : ℕ → ℕ) (
     where
       by : (b : Bool) → Memᴰ m (if b then (step_at ps (key n)).inputs else []) → m < 32
       by true k = every_member (λ m. m < 32) 0 (step_at ps (key n)).inputs (plain (key n)).inputs m k
-      by false k = absurd (Memᴰ.not_nil k)
+      by false k = absurd (Memᴰ.not-nil k)
 
   grown_short : (f : ℕ) (met past waiting : List ℕ) (es : List Edge) → ((m : ℕ) → Memᴰ m waiting → m < 32) → Every ShortEdge no_edge es
       → Every ShortEdge no_edge (grow key f ps met past waiting es).1
@@ -70,7 +70,7 @@ module _ (ps : List Step) (plain : Every Plain no_step ps) (key : ℕ → ℕ) (
 
 sinks_below : (f : ℕ × Step → Bool) (k : ℕ) (l : List Step) (m : ℕ) → Memᴰ m (map (λ (n, s). n) (select f (numbered k l))) → m < k + length l
 unfolding select numbered
-sinks_below f k [] m j = absurd (Memᴰ.not_nil j)
+sinks_below f k [] m j = absurd (Memᴰ.not-nil j)
 sinks_below f k (x ∷ l) m j = by (f (k, x)) (λ j. sinks_below f (suc k) l m j) j
   where
     by : (b : Bool) → (Memᴰ m (map (λ (n, s). n) (select f (numbered (suc k) l))) → m < suc k + length l)

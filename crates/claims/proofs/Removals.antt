@@ -139,7 +139,7 @@ module _ (sh : Sheet) (keyed : Keyed sh.steps) (half : Run) (e₁ : down sh ≡ 
   down_exactly : (n : ℕ) → Memᴰ n half.removed ↔ RemovedDown sh n
   unfolding down begin
   down_exactly n = (
-    λ m. elim (was_removed n places (begin sh) e₁ m) [ inl z ↦ absurd (Memᴰ.not_nil z) | inr y ↦ y ],
+    λ m. elim (was_removed n places (begin sh) e₁ m) [ inl z ↦ absurd (Memᴰ.not-nil z) | inr y ↦ y ],
     λ (r, m, x). let (ms, g, w) = at_visit n r m in stays_removed n ms r w x,
   )
 
@@ -195,7 +195,7 @@ module _ (sh : Sheet) (keyed : Keyed sh.steps) (half : Run) (e₁ : down sh ≡ 
       by : Dec (1 ≤ times n half.removed) → (k : ℕ) × EdgeOf sh half n k × (k < length half.edges)
       by (yes h) =
           elim (was_removed n places (begin sh) e₁ (stands_in n half.removed h)) [
-            | inl z ↦ absurd (Memᴰ.not_nil z)
+            | inl z ↦ absurd (Memᴰ.not-nil z)
             | inr (r, m, x) ↦
                 let (ms, g, w) = at_visit n r m in
                 let there = leaving_there n r.edges (omega (arith, one_out sh.steps n ms r g is_sort)) in

@@ -57,7 +57,7 @@ rising_visit ps gone n rest r r' g e =
                   count_map (is_out_of k) (loosened n (ruling n r).loosened) r.edges,
                 );
             kept =
-                kept_part ps rest (n ∷ []) [] r'.edges (λ m i. absurd (Memᴰ.not_nil i))
+                kept_part ps rest (n ∷ []) [] r'.edges (λ m i. absurd (Memᴰ.not-nil i))
                 (kept_visit ps rest (n ∷ []) n r e (Memᴰ.head refl) g.kept.1);
             removed = ap (λ (q : Run). q.removed) w.1 ∙ g.removed;
           }

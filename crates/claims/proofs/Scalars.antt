@@ -28,7 +28,7 @@ module _ (rec : Look) (B : Bounded rec) (x : ℕ) where
       → sum (load (only x) s.expr_arena) qs ≤ 1 → Memᴰ x qs
       → scalar_at (look_along rec NO_DEORDER qs os a s).2 x ≡ scalar_at s x
   unfolding look_along sum
-  along_scalar [] os a s g h m = absurd (Memᴰ.not_nil m)
+  along_scalar [] os a s g h m = absurd (Memᴰ.not-nil m)
   along_scalar (q ∷ qs) os a s g h m =
       let es = s.expr_arena in
       let b = B NO_DEORDER q s g in

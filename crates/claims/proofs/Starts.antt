@@ -32,7 +32,7 @@ clear_without c n [] h = tt
 clear_without c n (x ∷ l) h = (λ e. absurd (h (Memᴰ.head (sym e))), clear_without c n l (λ m. h (Memᴰ.tail m)))
 
 clear_snoc : (c n x : ℕ) (l : List ℕ) → x ≢ c → Clear c n l → Clear c n (l ++ (x ∷ []))
-clear_snoc c n x [] h k = (λ e. (h, Memᴰ.not_nil), tt)
+clear_snoc c n x [] h k = (λ e. (h, Memᴰ.not-nil), tt)
 clear_snoc c n x (y ∷ l) h k = (
   λ e. ((k.0 e).0, λ m. elim (Memᴰ.append_cases l m) [ inl m' ↦ (k.0 e).1 m' | inr m' ↦ h (sym (Memᴰ.eq_of_singleton m')) ]),
   clear_snoc c n x l h k.1,

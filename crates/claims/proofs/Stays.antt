@@ -167,7 +167,7 @@ kept_visit ps (n ∷ back) rest m r {r'} e i k = (λ t. still (k.0 t), kept_visi
 
 pub kept_at : (ps : List Step) (back rest : List ℕ) (es : List Edge) → Kept ps back rest es
     → (n : ℕ) → Memᴰ n back → T (unsliced_sort (step_at ps n)) → Held n [] es
-kept_at ps [] rest es k n i t = absurd (Memᴰ.not_nil i)
+kept_at ps [] rest es k n i t = absurd (Memᴰ.not-nil i)
 kept_at ps (x ∷ back) rest es k n i t =
     elim (Memᴰ.cases_cons i) [
       | inl e ↦
@@ -177,7 +177,7 @@ kept_at ps (x ∷ back) rest es k n i t =
             there = h.there;
             leaves = subst (λ y. T (is_out_of y (get_or es h.at no_edge))) (sym e) h.leaves;
             ordered = h.ordered;
-            apart = λ m j. absurd (Memᴰ.not_nil j);
+            apart = λ m j. absurd (Memᴰ.not-nil j);
           }
       | inr j ↦ kept_at ps back (x ∷ rest) es k.1 n j t
     ]

@@ -23,6 +23,7 @@ module _ {A : Type 0} where
   -- a member's part
   pub sum_part : (w : A → ℕ) (l : List A) (a : A) → Memᴰ a l → w a ≤ sum w l
   unfolding sum
+  sum_part w [] a m = elim m [ ]
   sum_part w (x ∷ l) a (Memᴰ.head e) = omega (arith, ap w e)
   sum_part w (x ∷ l) a (Memᴰ.tail m) = omega (arith, sum_part w l a m)
 

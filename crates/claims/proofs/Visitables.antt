@@ -185,7 +185,7 @@ module _ (sh : Sheet) (wf : WellFormed sh) where
         within = within_begin sh wf;
         printable = printable_begin sh wf;
         places = place_there sh.steps plan;
-        back = λ m i. absurd (Memᴰ.not_nil i);
+        back = λ m i. absurd (Memᴰ.not-nil i);
         few = omega (arith, few_places sh wf);
         readable = readable_at_start;
         slots =

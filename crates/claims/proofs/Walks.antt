@@ -36,7 +36,7 @@ module _ (visit : ℕ → Run → Outcome Run) (P : List ℕ → Run → Type 0)
   -- and at each visit, whether or not a later one is refused
   pub trace_by_keeps : (ns : List ℕ) (r : Run) → P ns r → (n : ℕ) (v : Run) → Memᴰ (n, v) (trace_by visit ns r) → (ms : List ℕ) × P (n ∷ ms) v
   unfolding trace_by
-  trace_by_keeps [] r p n v m = absurd (Memᴰ.not_nil m)
+  trace_by_keeps [] r p n v m = absurd (Memᴰ.not-nil m)
   trace_by_keeps (k ∷ ns) r p n v m =
       elim (Memᴰ.cases_cons m) [
         | inl i ↦ let at : ℕ × Run → Type 0 = λ (n, v). (ms : List ℕ) × P (n ∷ ms) v in subst at (sym i) (ns, p)
@@ -45,7 +45,7 @@ module _ (visit : ℕ → Run → Outcome Run) (P : List ℕ → Run → Type 0)
     where
       on : (o : Outcome Run) → ((q : Run) → o ≡ done q → P ns q) → ((q : Run) → P ns q → Memᴰ (n, v) (trace_by visit ns q) → (ms : List ℕ) × P (n ∷ ms) v)
           → Memᴰ (n, v) (then_all o (λ q. trace_by visit ns q)) → (ms : List ℕ) × P (n ∷ ms) v
-      on (refused j) f h m = absurd (Memᴰ.not_nil m)
+      on (refused j) f h m = absurd (Memᴰ.not-nil m)
       on (done q) f h m = h q (f q refl) m
 
 -- of the definition's

@@ -1,4 +1,6 @@
 // The call: a sheet of bytes in, its finished sheet or a number out.
+#![tactic(auto)]
+
 ghost use Rattle.std.specs.Prelude.{◌≡◌, ◌≤◌, length};
 ghost use Rattle.plan.specs.Finished as plan;
 ghost use Rattle.plan.specs.Finished.{answer_length};

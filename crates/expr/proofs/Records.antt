@@ -11,7 +11,7 @@ use Rattle.plan.specs.Kinds.{same_aexpr}
 use Rattle.plan.specs.Lists.{all?}
 use Rattle.plan.specs.Sheet.{Expr}
 use Rattle.storage.specs.declared.exprs.ExprRecord.{ExprRecord}
-use Rattle.storage.specs.Exprs.{record_of, Shaped, held}
+use Rattle.storage.specs.Exprs.{record_of, Shaped}
 use Rattle.expr.specs.State.{Falls, above, Readable, preserves, is_replaced_line}
 
 -- Its children -------------------------------------------------------------------------------------------------------------------

@@ -14,7 +14,7 @@ use plan::orders::{ExprOrderAcc, ObservableOrders as O};
 use storage::exprs::ExprRecord;
 
 // An answer from that of the second look.
-#[derive(Drop)]
+#[derive(Clone, Copy)]
 pub enum Output {
     // As where no child is looked at again.
     Same,
@@ -39,7 +39,7 @@ impl Output {
     }
 }
 
-#[derive(Drop)]
+#[derive(Clone, Copy)]
 pub struct After {
     // Handed to internal_observe.
     pub observes: O,

@@ -6,7 +6,7 @@ use plan::orders::ObservableOrders;
 
 // Lent to the looks beside it, as in the Rust, are the arena and the revisit_cache: `line` has the base record that each line
 // holds now, and `off` whether its Implode was switched off.
-#[derive(Drop)]
+#[derive(Clone, Copy)]
 pub struct Eos {
     // looks * 64 + struct_field_ordering * 16 + internally_observed * 4 + the last look's answer.
     bits: u64,

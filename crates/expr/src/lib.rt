@@ -1,4 +1,6 @@
 // The looks at expression records: ExprOrderSimplifier of expr.rs. It knows no edge and no step.
+#![tactic(auto)]
+
 pub mod after; // after.rt: what a record does once its children have answered
 pub mod before; // before.rt: what stands before the looks along a record's children
 pub mod eos; // eos.rt: what the looks of a visit own, in one number

@@ -23,7 +23,7 @@ use plan::looks::Before;
 use plan::orders::ObservableOrders;
 use storage::exprs::{ExprRecord, expr_of, is_length_preserving};
 
-#[derive(Drop)]
+#[derive(Clone, Copy)]
 pub struct Walk {
     pub state: Eos,
     pub seen: Seen,

@@ -6,7 +6,7 @@ ghost use Rattle.expr.specs.Seen.{none_seen, Adds};
 use plan::orders::{ExprOrderAcc, ObservableOrders};
 
 // What a look along children comes to.
-#[derive(Drop)]
+#[derive(Clone, Copy)]
 pub struct Seen {
     pub acc: ExprOrderAcc,
     pub first: ObservableOrders,

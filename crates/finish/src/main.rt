@@ -1,4 +1,6 @@
 // Finishes the sheet on standard input: the finished sheet, or the refusal's number, on standard output.
+#![tactic(auto)]
+
 ghost use Rattle.std.specs.Prelude.{◌≤◌, length};
 ghost use Rattle.plan.specs.Finished.{answer_length};
 

@@ -1,6 +1,8 @@
 // Goes through the guide's examples, and compares each with what the calls answer. data/GUIDE.md is the guide itself.
 // A block of the guide stands between two lines that begin with three backquotes. The first of them may name it: `sheet`; `answer`,
 // what finish prints for the last sheet; `right` and `wrong`, papers to that sheet. All other blocks are passed over.
+#![tactic(auto)]
+
 ghost use Rattle.std.specs.Prelude.{◌<◌, ◌≤◌, length};
 ghost use Rattle.plan.specs.Finished.{answer_length};
 
@@ -11,7 +13,7 @@ use streams::read_path;
 use writing::lines::put_refusal;
 
 // The block that a line of the guide begins: none, one of the four, or another.
-#[derive(Drop)]
+#[derive(Clone, Copy)]
 enum Block {
     None,
     Other,
@@ -22,7 +24,7 @@ enum Block {
 }
 
 // What was found in a block.
-#[derive(Drop)]
+#[derive(Clone, Copy)]
 enum Found {
     Nothing,
     Sheet,
@@ -31,7 +33,7 @@ enum Found {
 }
 
 // How many sheets there were, how many examples agreed, how many did not, and the first of these, counted from 1.
-#[derive(Drop)]
+#[derive(Clone, Copy)]
 struct Score {
     sheets: u64,
     agree: u64,

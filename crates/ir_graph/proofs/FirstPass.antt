@@ -96,7 +96,7 @@ module _ (bytes : List ℕ) (n : ℕ) (small : n ≤ 32) (plan : Plan (stored_st
         fuel = most_places ps;
         popped_so_far = refl;
         noted = refl;
-        met_there = λ m i. absurd (Memᴰ.not_nil i);
+        met_there = λ m i. absurd (Memᴰ.not-nil i);
         left = omega arith;
         ends = rw p.entries;
         counted = rw p.entries (λ w. omega (arith, none w, sum_reverse w (sinks ps), followed_none w ps (λ n. among n []) (λ n. refl)));
@@ -265,7 +265,7 @@ module _ (bytes : List ℕ) (n : ℕ) (small : n ≤ 32) (plan : Plan (stored_st
               λ m i.
               elim (Memᴰ.append_cases p.met i) [
                 | inl j ↦ p.met_there m j
-                | inr j ↦ elim (Memᴰ.cases_cons j) [ inl q ↦ omega (arith, q, length_steps bytes n, top_there) | inr q ↦ absurd (Memᴰ.not_nil q) ]
+                | inr j ↦ elim (Memᴰ.cases_cons j) [ inl q ↦ omega (arith, q, length_steps bytes n, top_there) | inr q ↦ absurd (Memᴰ.not-nil q) ]
               ];
           left = omega (arith, p.left, g);
           ends =
@@ -295,7 +295,7 @@ module _ (bytes : List ℕ) (n : ℕ) (small : n ≤ 32) (plan : Plan (stored_st
         last = ap (λ (j : ℕ). take j stack) e ∙ take-suc stack k 0 (omega (arith, p.fits, p.room))
 
         in_range : (m : ℕ) (b : Bool) → Memᴰ m (if b then [] else (step_at ps top).inputs) → m < length ps
-        in_range m true j = absurd (Memᴰ.not_nil j)
+        in_range m true j = absurd (Memᴰ.not-nil j)
         in_range m false j = input_there ps plan top m j
 
         pushed_there : (m : ℕ) → Memᴰ m new → m < length ps

@@ -269,7 +269,7 @@ module _ (bytes : List ℕ) (n : ℕ) (small : n ≤ 32) (plan : Plan (stored_st
 
           in_range : (m : ℕ) (b : Bool) → Memᴰ m (if b then (step_at ps top).inputs else []) → m < length ps
           in_range m true j = input_there ps plan top m j
-          in_range m false j = absurd (Memᴰ.not_nil j)
+          in_range m false j = absurd (Memᴰ.not-nil j)
 
           size_after : (b : Bool) → length (if b then set counts top (get_or counts top 0 - 1) else counts) ≡ 32
           size_after true = length-set counts top (get_or counts top 0 - 1) ∙ g.size

@@ -42,7 +42,7 @@ fn follow(
 }
 
 // How many places the visiting list has, and how many edges there are.
-#[derive(Drop)]
+#[derive(Clone, Copy)]
 pub struct Graph {
     pub places: usize,
     pub edges: usize,

@@ -6,7 +6,7 @@ ghost use Rattle.ir_graph.specs.NodeKey.{node_key};
 use storage::steps::{cache_id, is_cache};
 
 // On an accepted sheet two steps with one key are one line (proofs/NodeKey), so the graph lets a step's line stand for its key.
-#[derive(Drop)]
+#[derive(Clone, Copy)]
 pub enum IRNodeKey {
     Node(u8),
     CacheId(u8),

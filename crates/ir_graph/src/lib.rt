@@ -1,4 +1,6 @@
 // The visiting list and the edges: ir_node_key.rs and ir_graph.rs.
+#![tactic(auto)]
+
 pub mod edges; // edges.rt: the edges of one step
 pub mod first_met; // first_met.rt: the line of each cache id that is met first
 pub mod hits; // hits.rt: the first pass

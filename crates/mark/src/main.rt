@@ -1,4 +1,6 @@
 // Marks a paper against a sheet, two files named as arguments: `right`, `wrong`, or the refusal's number, on standard output.
+#![tactic(auto)]
+
 ghost use Rattle.io.specs.Counts.{IsPrefixLen};
 
 use libc::{STDERR_FILENO, STDOUT_FILENO};

@@ -1,6 +1,6 @@
 // What marking answers.
 
-#[derive(Drop)]
+#[derive(Clone, Copy)]
 pub enum Mark {
     // The paper is the P lines and then the G lines of the finished sheet.
     Right,

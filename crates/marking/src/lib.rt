@@ -1,4 +1,6 @@
 // Marks a candidate's paper: are its bytes the P lines and then the G lines of the finished sheet?
+#![tactic(auto)]
+
 ghost use Rattle.std.specs.Prelude.{◌≡◌, ◌++◌};
 ghost use Rattle.plan.specs.Lists.{same};
 ghost use Rattle.marking.specs.Marking.{mark_call, marked, verdict};

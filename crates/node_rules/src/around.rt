@@ -10,7 +10,7 @@ use plan::rules::Around;
 use storage::edges::{consumer_of, first_into, is_out_of, is_unordered};
 
 // The numbers of a step's in-edges: those from one up to the other.
-#[derive(Drop)]
+#[derive(Clone, Copy)]
 pub struct InEdges {
     pub from: usize,
     pub to: usize,

@@ -1,4 +1,6 @@
 // What a visit reads of a step and its edges, and what it makes of them: the match of mod.rs and unlink_node. It knows no arena.
+#![tactic(auto)]
+
 pub mod around; // around.rt: a step's edges as a visit finds them
 pub mod joins; // joins.rt: the rule of a Join
 pub mod loosen; // loosen.rt: the edges that a rule loosens

@@ -307,7 +307,7 @@ walk_refused (n ∷ ns) r k e = on (simplify_ir_node_orders n r) refl (λ r'. wa
 -- and one of whose visits is refused, is refused with that number
 pub walk_stops : (ns : List ℕ) (r : Run) (n k : ℕ) (v : Run) → Memᴰ (n, v) (trace ns r) → simplify_ir_node_orders n v ≡ refused k → walk ns r ≡ refused k
 unfolding walk_by trace_by ◌then◌
-walk_stops [] r n k v m x = absurd (Memᴰ.not_nil m)
+walk_stops [] r n k v m x = absurd (Memᴰ.not-nil m)
 walk_stops (j ∷ ns) r n k v m x =
     elim (Memᴰ.cases_cons m) [
       | inl i ↦
@@ -318,5 +318,5 @@ walk_stops (j ∷ ns) r n k v m x =
   where
     on : (o : Outcome Run) → ((r' : Run) → Memᴰ (n, v) (trace ns r') → walk ns r' ≡ refused k) → Memᴰ (n, v) (then_all o (λ r'. trace ns r'))
         → (o then λ r'. walk ns r') ≡ refused k
-    on (refused l) f t = absurd (Memᴰ.not_nil t)
+    on (refused l) f t = absurd (Memᴰ.not-nil t)
     on (done r') f t = f r' t

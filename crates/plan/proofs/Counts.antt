@@ -40,7 +40,7 @@ mem_at (x ∷ l) (suc k) d h = Memᴰ.tail (mem_at l k d (omega arith))
 
 module _ {A B : Type 0} where
   pub of_map : (Q : B → Type 0) (g : A → B) (l : List A) → ((a : A) → Memᴰ a l → Q (g a)) → (b : B) → Memᴰ b (map g l) → Q b
-  of_map Q g [] f b m = absurd (Memᴰ.not_nil m)
+  of_map Q g [] f b m = absurd (Memᴰ.not-nil m)
   of_map Q g (x ∷ l) f b m =
       elim (Memᴰ.cases_cons m) [
         | inl e ↦ subst Q (sym e) (f x (Memᴰ.head refl))
@@ -49,7 +49,7 @@ module _ {A B : Type 0} where
 
   pub mem_concat : (f : A → List B) (l : List A) (d : A) (b : B) → Memᴰ b (concat_map f l) → (i : ℕ) × (i < length l) × Memᴰ b (f (get_or l i d))
   unfolding concat_map
-  mem_concat f [] d b m = absurd (Memᴰ.not_nil m)
+  mem_concat f [] d b m = absurd (Memᴰ.not-nil m)
   mem_concat f (x ∷ l) d b m =
       elim (Memᴰ.append_cases (f x) m) [
         | inl m' ↦ (0, omega arith, m')
@@ -58,7 +58,7 @@ module _ {A B : Type 0} where
 
   pub in_concat : (f : A → List B) (l : List A) (a : A) (b : B) → Memᴰ a l → Memᴰ b (f a) → Memᴰ b (concat_map f l)
   unfolding concat_map
-  in_concat f [] a b m k = absurd (Memᴰ.not_nil m)
+  in_concat f [] a b m k = absurd (Memᴰ.not-nil m)
   in_concat f (x ∷ l) a b m k =
       elim (Memᴰ.cases_cons m) [
         | inl e ↦ Memᴰ.append_left (concat_map f l) (subst (λ (y : A). Memᴰ b (f y)) e k)
@@ -68,7 +68,7 @@ module _ {A B : Type 0} where
 -- the entries of a numbered list
 pub entry_of : {A : Type 0} (k : ℕ) (l : List A) (d : A) (x : ℕ × A) → Memᴰ x (numbered k l) → (i : ℕ) × (i < length l) × (x.0 ≡ k + i) × (x.1 ≡ get_or l i d)
 unfolding numbered
-entry_of k [] d x m = absurd (Memᴰ.not_nil m)
+entry_of k [] d x m = absurd (Memᴰ.not-nil m)
 entry_of k (a ∷ l) d x m =
     elim (Memᴰ.cases_cons m) [
       | inl e ↦ (0, omega arith, omega (arith, ap (λ y. y.0) e), ap (λ y. y.1) e)
@@ -116,7 +116,7 @@ count f l = sum (λ a. if f a then 1 else 0) l
 module _ {A : Type 0} (f : A → Bool) where
   pub counted_in : (l : List A) (a : A) → Memᴰ a l → T (f a) → 1 ≤ count f l
   unfolding sum
-  counted_in [] a m t = absurd (Memᴰ.not_nil m)
+  counted_in [] a m t = absurd (Memᴰ.not-nil m)
   counted_in (x ∷ l) a m t =
       elim (Memᴰ.cases_cons m) [
         | inl e ↦ by (f x) (subst (λ y. T (f y)) e t)
@@ -178,7 +178,7 @@ module _ {A : Type 0} (f : A → Bool) where
   -- where at most one is counted, two of them are the same
   pub only_one : (l : List A) → count f l ≤ 1 → (a b : A) → Memᴰ a l → T (f a) → Memᴰ b l → T (f b) → a ≡ b
   unfolding sum
-  only_one [] h a b m t n u = absurd (Memᴰ.not_nil m)
+  only_one [] h a b m t n u = absurd (Memᴰ.not-nil m)
   only_one (x ∷ l) h a b m t n u = by (Memᴰ.cases_cons m) (Memᴰ.cases_cons n) (λ k k'. only_one l (omega arith) a b k t k' u)
     where
       late : (c : A) → T (f c) → Memᴰ c l → (d : A) → T (f d) → d ≡ x → ⊥

@@ -45,7 +45,7 @@ module _ {A : Type 0} (right : A → Bool) (Wrong : A → Type 0) where
           → (y : A) × First Wrong (x ∷ l) y
       by true f g t rec = let (y, first) = rec t in (y, front y (f tt) first)
       by false f g t rec =
-          (x, record { before = []; after = l; split = refl; right = λ z m. absurd (Memᴰ.not_nil m); wrong = k.fails x (Memᴰ.head refl) (g tt) })
+          (x, record { before = []; after = l; split = refl; right = λ z m. absurd (Memᴰ.not-nil m); wrong = k.fails x (Memᴰ.head refl) (g tt) })
 
   module _ (l : List A) (k : Tells l) where
     pub none_wrong : T (all? right l) → None Wrong l

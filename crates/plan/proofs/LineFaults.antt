@@ -263,7 +263,7 @@ module _ (es : List Expr) where
       by k true f j =
           let (c, h, t) = mem_concat (tree es) (rest (expr_at es k).children) 0 i j in
           Evaluated.under k (get_or (rest (expr_at es k).children) c 0) (f tt) (mem_at (rest (expr_at es k).children) c 0 h) t
-      by k false f j = absurd (Memᴰ.not_nil j)
+      by k false f j = absurd (Memᴰ.not-nil j)
 
   pub field_outside : (x : ℕ × Expr) → T (not (field_right es x)) → FieldOutside es x
   unfolding field_right

@@ -24,7 +24,7 @@ and_right false b t = absurd t
 
 pub of_all : {A : Type 0} (f : A → Bool) (l : List A) → T (all? f l) → (a : A) → Memᴰ a l → T (f a)
 unfolding all?
-of_all f [] t a m = absurd (Memᴰ.not_nil m)
+of_all f [] t a m = absurd (Memᴰ.not-nil m)
 of_all f (x ∷ xs) t a m =
     elim (Memᴰ.cases_cons m) [
       | inl e ↦ subst (λ y. T (f y)) (sym e) (and_left (f x) (all? f xs) t)

@@ -3,7 +3,7 @@ ghost use Rattle.std.specs.Prelude.{◌≡◌};
 ghost use Rattle.plan.specs.Kinds.{aexpr, aexpr_number};
 
 // MinBy stands for MaxBy too, First for Last and their NonNull forms, Min for every aggregate that lifts order (Min to Var).
-#[derive(Drop)]
+#[derive(Clone, Copy)]
 pub enum AExpr {
     Column,
     Literal,

@@ -2,7 +2,7 @@
 
 // The finished sheet stands at the front of the output: where its E, P and G lines and the whole end there, and the tallies of
 // its T line.
-#[derive(Drop)]
+#[derive(Clone, Copy)]
 pub struct Finished {
     pub exprs: usize,
     pub steps: usize,
@@ -13,7 +13,7 @@ pub struct Finished {
     pub looks: u64,
 }
 
-#[derive(Drop)]
+#[derive(Clone, Copy)]
 pub enum Answer {
     Finished(Finished),
     // One of the refusal numbers; the output is as it was.

@@ -3,7 +3,7 @@ ghost use Rattle.std.specs.Prelude.{◌≡◌};
 ghost use Rattle.plan.specs.Kinds.{keep_strategy, keep_strategy_number};
 
 // Which of equal rows a Distinct keeps.
-#[derive(Drop)]
+#[derive(Clone, Copy)]
 pub enum UniqueKeepStrategy {
     First,
     Last,

@@ -3,7 +3,7 @@ ghost use Rattle.std.specs.Prelude.{◌≡◌, ◌<◌};
 ghost use Rattle.plan.specs.FunctionFlags.{contains, is_elementwise, observes_input_order, terminates_input_order, non_order_producing};
 
 // The bits are the sheet's, not the Rust's: its option a for kind 19.
-#[derive(Drop)]
+#[derive(Clone, Copy)]
 pub struct FunctionFlags {
     pub bits: u8,
 }

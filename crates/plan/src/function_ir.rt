@@ -4,7 +4,7 @@ ghost use Rattle.plan.specs.FunctionIR.{is_order_producing, observes_input_order
 ghost use Rattle.plan.specs.Kinds.{function_ir, function_ir_number};
 
 // What a MapFunction does to the whole frame.
-#[derive(Drop)]
+#[derive(Clone, Copy)]
 pub enum FunctionIR {
     RowIndex,
     FastCount,

@@ -3,7 +3,7 @@ ghost use Rattle.std.specs.Prelude.{◌≡◌};
 ghost use Rattle.plan.specs.Kinds.{ir, ir_number};
 
 // Scan stands for DataFrameScan too.
-#[derive(Drop)]
+#[derive(Clone, Copy)]
 pub enum IR {
     Scan,
     UnoptimizedDispatch,

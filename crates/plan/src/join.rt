@@ -3,7 +3,7 @@ ghost use Rattle.std.specs.Prelude.{◌≡◌};
 ghost use Rattle.plan.specs.Kinds.{join_type, join_type_number, maintain_order, maintain_order_number};
 
 // Other stands for every type that the rules do not tell apart.
-#[derive(Drop)]
+#[derive(Clone, Copy)]
 pub enum JoinType {
     Other,
     Semi,
@@ -43,7 +43,7 @@ impl JoinType {
 }
 
 // Whose order a Join keeps.
-#[derive(Drop)]
+#[derive(Clone, Copy)]
 pub enum MaintainOrderJoin {
     None,
     Left,

@@ -1,4 +1,6 @@
 // The kinds of a plan's records in the Rust's names, and the methods that the port calls on them.
+#![tactic(auto)]
+
 pub mod aexpr; // aexpr.rt: AExpr
 pub mod answer; // answer.rt: Answer
 pub mod choice; // choice.rt: a choice between two bytes

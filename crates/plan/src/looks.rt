@@ -1,7 +1,7 @@
 // What a look reads before it goes along a record's children: the same type in the definition and in the code.
 
 // A row for each kind of record.
-#[derive(Drop)]
+#[derive(Clone, Copy)]
 pub struct Before {
     // check_return_cached! stands at its head.
     pub checks: bool,

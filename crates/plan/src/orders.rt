@@ -2,7 +2,7 @@
 ghost use Rattle.std.specs.Prelude.{◌≡◌, ◌<◌};
 ghost use Rattle.plan.specs.Orders.{◌∪◌, is_empty, add};
 
-#[derive(Drop)]
+#[derive(Clone, Copy)]
 pub struct ObservableOrders {
     // Ordering of a column can be observed.
     pub column: bool,
@@ -43,7 +43,7 @@ impl ObservableOrders {
 }
 
 // The order accumulator.
-#[derive(Drop)]
+#[derive(Clone, Copy)]
 pub struct ExprOrderAcc {
     pub acc: ObservableOrders,
     // Were expressions of different orders projected beside each other?

@@ -3,7 +3,7 @@ use crate::ir::IR;
 use crate::orders::ObservableOrders;
 
 // A step's kind, its options, and how many expressions its n2 list has.
-#[derive(Drop)]
+#[derive(Clone, Copy)]
 pub struct Options {
     pub kind: IR,
     pub a: u8,
@@ -13,7 +13,7 @@ pub struct Options {
 }
 
 // A step's edges as the visit finds them: are they unordered?
-#[derive(Drop)]
+#[derive(Clone, Copy)]
 pub struct Around {
     // all in_edges
     pub ins: bool,
@@ -28,7 +28,7 @@ pub struct Around {
 }
 
 // What the looks along the n2 list and along the n3 list answered, and internally_observed_orders.
-#[derive(Drop)]
+#[derive(Clone, Copy)]
 pub struct Observable {
     pub exprs: ObservableOrders,
     pub aggs: ObservableOrders,
@@ -36,7 +36,7 @@ pub struct Observable {
 }
 
 // The edges that a rule loosens, that is sets to Edge::Unordered: into slot 0, into the later slots, out.
-#[derive(Drop)]
+#[derive(Clone, Copy)]
 pub struct Loosened {
     pub in0: bool,
     pub later: bool,
@@ -44,7 +44,7 @@ pub struct Loosened {
 }
 
 // What a rule gives: the step's options after the visit, and the edges loosened.
-#[derive(Drop)]
+#[derive(Clone, Copy)]
 pub struct Ruled {
     pub options: Options,
     pub loosened: Loosened,

@@ -1,6 +1,6 @@
 // The tally of a run: how many visits and looks were made.
 
-#[derive(Drop)]
+#[derive(Clone, Copy)]
 pub struct Tally {
     pub visits: u64,
     pub looks: u64,

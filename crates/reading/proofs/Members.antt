@@ -44,6 +44,7 @@ module _ {A : Type 0} {x : A} where
 module _ {A : Type 0} {q : ℕ} (f : A → List ℕ) where
   pub in_concat : (l : List A) {y : A} → In y l → In q (f y) → In q (concat_map f l)
   unfolding concat_map
+  in_concat [] {y = y} x'' j = elim x'' [ ]
   in_concat (y ∷ l) here j = in_left (concat_map f l) j
   in_concat (z ∷ l) (there i) j = in_right (f z) (in_concat l i j)
 
@@ -62,6 +63,7 @@ at_in (x ∷ l) d zero h = here
 at_in (x ∷ l) d (suc i) h = there (at_in l d i (omega arith))
 
 pub in_at : {A : Type 0} (l : List A) (d : A) {x : A} → In x l → (i : ℕ) × (i < length l) × (x ≡ get_or l i d)
+in_at {A = A} [] d x3 = elim x3 [ ]
 in_at (x ∷ l) d here = (0, omega arith, refl)
 in_at (y ∷ l) d (there i) = let (k, h, e) = in_at l d i in (suc k, omega arith, e)
 
@@ -110,6 +112,7 @@ same_tests q l m f g = by (leb 1 (times q l)) (among q m) refl refl
 
 pub all_in : (f : ℕ → Bool) (l : List ℕ) → all? f l ≡ true → (q : ℕ) → In q l → f q ≡ true
 unfolding all?
+all_in f [] e q x'' = elim x'' [ ]
 all_in f (x ∷ l) e q here = and_left (f x) (all? f l) e
 all_in f (x ∷ l) e q (there i) = all_in f l (and_right (f x) (all? f l) e) q i
 

@@ -1,4 +1,6 @@
 // From the bytes of a sheet to its plan: refusals 2 to 9, 12 and 13.
+#![tactic(auto)]
+
 ghost use Rattle.storage.specs.Stored.{StepsHeld};
 ghost use Rattle.reading.specs.Held.{ExprsHeld, sheet};
 ghost use Rattle.reading.specs.Plan.{checked_plan, plan_of, PlanIs, PlanHeld};
@@ -15,13 +17,13 @@ pub mod tables; // tables.rt: what each kind of line may have
 pub mod uses; // uses.rt: how often lines are named, and ids
 
 // How many E lines and P lines a plan has.
-#[derive(Drop)]
+#[derive(Clone, Copy)]
 pub struct Counts {
     pub exprs: usize,
     pub steps: usize,
 }
 
-#[derive(Drop)]
+#[derive(Clone, Copy)]
 pub enum PlanRead {
     Taken(Counts),
     // One of the refusal numbers.

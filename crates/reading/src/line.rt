@@ -6,7 +6,7 @@ ghost use Rattle.reading.specs.Line.{field_of, field_at, placed, NumbersRead};
 use crate::number::Number;
 
 // What stands at the front of the bytes.
-#[derive(Drop)]
+#[derive(Clone, Copy)]
 pub enum Field {
     // A comma and a number: its value, and how many bytes both take.
     Number(u8, usize),
@@ -16,7 +16,7 @@ pub enum Field {
 }
 
 // How many numbers a line has, and the length of all of them with byte 10.
-#[derive(Drop)]
+#[derive(Clone, Copy)]
 pub struct Numbers {
     pub ok: bool,
     pub len: usize,

@@ -5,7 +5,7 @@ ghost use Rattle.reading.specs.Line.{numbers_of, line_here};
 ghost use Rattle.reading.specs.Lines.{pasted, aggs_of, Sound, LineRead, LinesRead};
 
 // How many E lines, agg entries and P lines were taken.
-#[derive(Drop)]
+#[derive(Clone, Copy)]
 pub struct LineCounts {
     pub exprs: usize,
     pub aggs: usize,
@@ -13,7 +13,7 @@ pub struct LineCounts {
 }
 
 // What a line comes to.
-#[derive(Drop)]
+#[derive(Clone, Copy)]
 pub enum Reading {
     // The counts with it, and its length.
     Taken(LineCounts, usize),
@@ -139,7 +139,7 @@ fn read_line(s: &[u8], exprs: &mut [u8; 2048], steps: &mut [u8; 1024], t: LineCo
 }
 
 // What all lines come to.
-#[derive(Drop)]
+#[derive(Clone, Copy)]
 pub enum Lines {
     Read(LineCounts),
     Refused(u8),

@@ -2,7 +2,7 @@
 ghost use Rattle.std.specs.Prelude.{◌≡◌, ◌≤◌};
 ghost use Rattle.reading.specs.Number.{digit_of, digit_at, number_at, TwoDigits};
 
-#[derive(Drop)]
+#[derive(Clone, Copy)]
 pub enum Number {
     // The value, and how many bytes it is written with.
     Value(u8, usize),

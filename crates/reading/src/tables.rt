@@ -3,7 +3,7 @@ ghost use Rattle.std.specs.Prelude.{◌≡◌, true, ◌&&◌, ◌+◌, ◌≤�
 ghost use Rattle.reading.specs.Tables.{row, expr_numbers_fit, most_a, most_b, most_c, inputs, exprs, most_aggs, within, step_numbers_fit, FewEntries};
 
 // The fewest and the most children of an expression, and its largest option.
-#[derive(Drop)]
+#[derive(Clone, Copy)]
 pub struct Row {
     pub least: u8,
     pub most: u8,
@@ -11,7 +11,7 @@ pub struct Row {
 }
 
 // The fewest and the most entries of a step's list.
-#[derive(Drop)]
+#[derive(Clone, Copy)]
 pub struct Range {
     pub least: u8,
     pub most: u8,

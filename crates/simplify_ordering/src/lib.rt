@@ -1,4 +1,6 @@
 // A visit to a step (simplify_ir_node_orders) and the two walks: mod.rs.
+#![tactic(auto)]
+
 pub mod implode; // implode.rt: the Implodes that GroupBy appends
 pub mod looks; // looks.rt: the looks of a visit
 pub mod visit; // visit.rt: simplify_ir_node_orders

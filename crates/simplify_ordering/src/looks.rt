@@ -18,7 +18,7 @@ use storage::steps::{Entries, aggs_of, exprs_of};
 use tally::looked;
 
 // What was observed, the tally afterwards, and how many records the arena has.
-#[derive(Drop)]
+#[derive(Clone, Copy)]
 pub struct VisitLooks {
     pub observable: Observable,
     pub tally: Tally,

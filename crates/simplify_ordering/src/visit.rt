@@ -22,7 +22,7 @@ use storage::store::store_options;
 use tally::visited;
 
 // A step as a visit finds it: its number, its options, the edges into it, and which of its edges are unordered.
-#[derive(Drop)]
+#[derive(Clone, Copy)]
 pub struct Found {
     pub node: u8,
     pub options: Options,
@@ -31,7 +31,7 @@ pub struct Found {
 }
 
 // What comes of a visit: the step was settled, or it was a sort that is removed, or the sheet is refused by 10 or 11.
-#[derive(Drop)]
+#[derive(Clone, Copy)]
 pub enum Visited {
     Settled,
     Removed,
@@ -39,7 +39,7 @@ pub enum Visited {
 }
 
 // And how many records the arena has then, and the tally.
-#[derive(Drop)]
+#[derive(Clone, Copy)]
 pub struct Visit {
     pub visited: Visited,
     pub exprs: usize,

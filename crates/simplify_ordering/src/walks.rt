@@ -12,7 +12,7 @@ use plan::tally::Tally;
 use storage::edges::GraphSize;
 
 // How far a walk has come.
-#[derive(Drop)]
+#[derive(Clone, Copy)]
 pub struct Walked {
     // 10 or 11 once a visit is refused, else 0.
     pub refused: u8,
@@ -24,14 +24,14 @@ pub struct Walked {
 }
 
 // What the walks leave: the sorts that they removed are counted.
-#[derive(Drop)]
+#[derive(Clone, Copy)]
 pub struct Fetched {
     pub exprs: usize,
     pub removed: usize,
     pub tally: Tally,
 }
 
-#[derive(Drop)]
+#[derive(Clone, Copy)]
 pub enum Orderings {
     Fetched(Fetched),
     // 10 or 11.

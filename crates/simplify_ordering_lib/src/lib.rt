@@ -1,4 +1,6 @@
 // The calls for C and Rust to link: include/simplify_ordering.h has their prototypes.
+#![tactic(auto)]
+
 ghost use Rattle.std.specs.Prelude.{◌≡◌};
 ghost use Rattle.plan.specs.Finished as plan;
 ghost use Rattle.plan.specs.Finished.{answer_number, answer_length};

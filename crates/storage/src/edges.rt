@@ -7,7 +7,7 @@ use plan::choice::pick_byte;
 use plan::sizes::{size_512, size_544};
 
 // How many steps a graph has, and how many edges.
-#[derive(Drop)]
+#[derive(Clone, Copy)]
 pub struct GraphSize {
     pub steps: usize,
     pub edges: usize,

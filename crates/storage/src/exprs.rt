@@ -6,7 +6,7 @@ ghost use Rattle.storage.specs.Exprs.{RecordHeld, IsHeld};
 use plan::aexpr::AExpr;
 use plan::choice::pick_byte;
 
-#[derive(Drop)]
+#[derive(Clone, Copy)]
 pub struct ExprRecord {
     pub kind: AExpr,
     pub scalar: bool,

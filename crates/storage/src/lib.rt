@@ -1,4 +1,6 @@
 // How the code stores a sheet, in specs/ with laws in proofs/, and what it reads and changes there.
+#![tactic(auto)]
+
 pub mod arena; // arena.rt: the arena written out, a record for each line
 pub mod edges; // edges.rt: the stored edges
 pub mod exprs; // exprs.rt: what is read of a stored expression

@@ -48,7 +48,7 @@ pub fn first_input(steps: &[u8; 1024], n: usize, i: usize) -> u8
 }
 
 // A list of expressions: the first `count` of the nodes.
-#[derive(Drop)]
+#[derive(Clone, Copy)]
 pub struct Entries {
     pub nodes: [u8; 8],
     pub count: u8,

@@ -1,4 +1,6 @@
 // The counters of visits and looks: the tally is lent to them, and they are the only places that add to it.
+#![tactic(auto)]
+
 ghost use Rattle.std.specs.Prelude.{◌≡◌, ◌+◌, ◌<◌, ◌^◌};
 ghost use Rattle.plan.specs.Tally.{visit_more, looks_more};
 

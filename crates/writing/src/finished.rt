@@ -11,7 +11,7 @@ use crate::lines::put_tally;
 use plan::answer::Finished;
 
 // How many lines there are of each letter.
-#[derive(Drop)]
+#[derive(Clone, Copy)]
 pub struct BlockCounts {
     pub exprs: usize,
     pub steps: usize,
@@ -19,7 +19,7 @@ pub struct BlockCounts {
 }
 
 // The figures of the T line.
-#[derive(Drop)]
+#[derive(Clone, Copy)]
 pub struct Tallies {
     pub removed: usize,
     pub visits: u64,

@@ -1,0 +1,6 @@
+use mathlib.Core.Path.{sym, ◌∙◌}
+use Rattle.expr.proofs.Bits.{field_at}
+use Rattle.expr.proofs.eos.Eos.field.Goals as goal
+
+pub returns : goal.returns
+returns c = c.orders.ensures ∙ sym (field_at c.args.self)

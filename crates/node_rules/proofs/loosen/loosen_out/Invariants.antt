@@ -1,0 +1,15 @@
+use mathlib.Core.Path.{◌≡◌}
+use mathlib.Core.Bool.{true}
+use mathlib.Core.List.{List}
+use Prim.Native.Nat.{ℕ, ◌-◌, ◌≤◌}
+use lib.ListN.{length}
+use Rattle.plan.specs.Visit.{loosened}
+use Rattle.node_rules.specs.Held.{outs_of}
+use Rattle.node_rules.proofs.EdgeChanges.{Changed}
+use Rattle.node_rules.proofs.loosen.loosen_out.Given as goal
+
+abbrev pub invariant-loop-k : goal.invariant-loop-k
+invariant-loop-k l = (l.k ≤ l.len) × (length l.edges ≡ 512) × ((ends : List ℕ) → Changed (loosened l.n (outs_of true)) ends l.initial.edges l.edges 0 l.k)
+
+abbrev pub decreases-loop-k : goal.decreases-loop-k
+decreases-loop-k l = l.len - l.k

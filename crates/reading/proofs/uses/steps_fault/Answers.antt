@@ -1,0 +1,6 @@
+use mathlib.Core.List.{[]}
+use Rattle.reading.proofs.Names.{steps_counted, none_counted}
+use Rattle.reading.proofs.uses.steps_fault.Goals as goal
+
+pub returns : goal.returns
+returns c = steps_counted [] c.args.steps.now 0 c.args.n (c.first_step_fault.ensures _ (c.count_inputs.ensures [] none_counted))
