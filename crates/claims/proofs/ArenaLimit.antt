@@ -1,4 +1,5 @@
 -- The arena stays within 128 records: its length, and the Implodes that visits are still to append, never grow together.
+use Rattle.std.specs.Prelude.{if◌then◌else◌}
 use mathlib.Core.Path.{◌≡◌, refl, ap, ◌∙◌, subst, sym}
 use mathlib.Core.Logic.{◌⊎◌, inl, inr}
 use Prim.Native.Nat.{ℕ, ◌+◌, ◌≤◌, ◌<◌}
@@ -10,7 +11,7 @@ use mathlib.Core.List.{List, Memᴰ}
 use lib.ListN.{length, set, get_or-eq_default}
 use Rattle.plan.specs.declared.ir.IR.{IR}
 use Rattle.plan.specs.Kinds.{same_ir}
-use Rattle.plan.specs.Lists.{if◌then◌else◌, sum}
+use Rattle.plan.specs.Lists.{sum}
 use Rattle.plan.specs.Sheet.{Expr, Step, no_step, step_at, expr_at}
 use Rattle.plan.specs.declared.tally.Tally.{Tally}
 use Rattle.plan.specs.declared.rules.Options.{Options}

@@ -1,10 +1,11 @@
 -- Both passes of the graph where each step is its own key: a plan in which each id has one Cache line.
+use Rattle.std.specs.Prelude.{if◌then◌else◌}
 use Prim.Native.Nat.{ℕ, zero, suc, ◌+◌}
 use mathlib.Core.Bool.{Bool, false, ◌&&◌, ◌||◌, not}
 use mathlib.Core.List.{List, [], ◌∷◌, ◌++◌, map, reverse}
 use mathlib.Core.Option.{some}
 use lib.Dec.{eqb}
-use Rattle.plan.specs.Lists.{if◌then◌else◌, numbered, among, times}
+use Rattle.plan.specs.Lists.{numbered, among, times}
 use Rattle.plan.specs.Sheet.{Step, step_at}
 use Rattle.plan.specs.Graph.{Edge, sinks, is_cache, most_places}
 

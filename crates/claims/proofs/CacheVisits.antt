@@ -1,5 +1,6 @@
 -- A visit to a Cache goes by its edges alone: it reads nothing of its own line but that it is a Cache, and changes no step. So a visit to
 -- any line of an id is one to its key.
+use Rattle.std.specs.Prelude.{if◌then◌else◌}
 use mathlib.Core.Path.{◌≡◌, refl, ap, sym, ◌∙◌}
 use Prim.Native.Nat.{ℕ}
 use mathlib.Core.Bool.{false, ◌&&◌, not}
@@ -15,7 +16,7 @@ use Rattle.plan.specs.declared.rules.Observable.{Observable}
 use Rattle.plan.specs.declared.rules.Ruled.{Ruled}
 use Rattle.plan.specs.Kinds.{same_ir}
 use Rattle.plan.specs.FunctionIR.{rust_functions}
-use Rattle.plan.specs.Lists.{if◌then◌else◌, yes?}
+use Rattle.plan.specs.Lists.{yes?}
 use Rattle.plan.specs.Sheet.{Expr, Step, done, no_step, step_at}
 use Rattle.plan.specs.Look.{look_along, look_again, simplify_projected_exprs}
 use Rattle.plan.specs.Visit.{Run, Looked, options_of, with_options, out_edge, around, arm, rule, loosened, join_fails, sink_fails, with_implodes, looks_of, looked_in, ruling_of, goes, refusal_number, settled_by, settle, simplify_ir_node_orders}

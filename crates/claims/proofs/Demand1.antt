@@ -1,4 +1,5 @@
 -- Demand 1: a finished sheet, or a number of the list under its condition, for every sequence of bytes and every output lent.
+use Rattle.std.specs.Prelude.{if◌then◌else◌}
 use mathlib.Core.Path.{◌≡◌, refl, ap, sym, ◌∙◌}
 use mathlib.Core.Logic.{◌⊎◌, inl, inr}
 use Prim.Native.Nat.{ℕ, ◌≤◌, ◌<◌, ◌+◌}
@@ -11,7 +12,7 @@ use lib.ListN.{length, length-append, length-drop}
 use Rattle.plan.specs.declared.answer.Answer.{Answer}
 use Rattle.plan.specs.declared.ir.IR.{IR}
 use Rattle.plan.specs.Kinds.{same_ir}
-use Rattle.plan.specs.Lists.{if◌then◌else◌, all?, sum, times, empty?}
+use Rattle.plan.specs.Lists.{all?, sum, times, empty?}
 use Rattle.plan.specs.Sheet.{Step, no_step, step_at, in_step_table, Sheet, Outcome, refused, done, ◌then◌, refuse◌when◌else◌, read}
 use Rattle.plan.specs.Faults.{named, checked}
 use Rattle.plan.specs.Graph.{graph, sinks, is_cache}

@@ -1,4 +1,5 @@
 -- More fuel changes nothing: of the records reached from one, and of both passes of the graph.
+use Rattle.std.specs.Prelude.{if◌then◌else◌}
 use mathlib.Core.Path.{◌≡◌, refl, ap, sym, ◌∙◌}
 use mathlib.Core.Logic.{inl, inr}
 use Prim.Native.Nat.{ℕ, zero, suc, ◌+◌, ◌<◌}
@@ -8,7 +9,7 @@ use mathlib.Core.Bool.{Bool, true, false, ◌&&◌}
 use mathlib.Core.List.Memᴰ
 use mathlib.Core.List.{List, [], ◌∷◌, ◌++◌, reverse, append-nil, Memᴰ}
 use lib.ListN.{length, length-append}
-use Rattle.plan.specs.Lists.{if◌then◌else◌, sum, concat_map, among}
+use Rattle.plan.specs.Lists.{sum, concat_map, among}
 use Rattle.plan.specs.Sheet.{Expr, Step, expr_at, step_at}
 use Rattle.plan.specs.Faults.{reach, named}
 use Rattle.plan.specs.Graph.{Edge, is_cache, most_places, sinks}

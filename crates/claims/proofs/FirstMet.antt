@@ -1,4 +1,5 @@
 -- In a plan every Cache line's id is met by the first pass: the key of a step is the line of its id that is met first.
+use Rattle.std.specs.Prelude.{if◌then◌else◌}
 use mathlib.Core.Path.{◌≡◌, refl, sym, ◌∙◌, subst}
 use mathlib.Core.Logic.{inl, inr}
 use Prim.Native.Nat.{ℕ}
@@ -7,7 +8,6 @@ use mathlib.Core.Bool.{Bool, true, false}
 use mathlib.Core.List.Memᴰ
 use mathlib.Core.List.{List, [], ◌∷◌, ◌++◌, map, Memᴰ}
 use lib.Dec.{T}
-use Rattle.plan.specs.Lists.{if◌then◌else◌}
 use Rattle.plan.specs.Sheet.{Step}
 use Rattle.plan.specs.Graph.{is_cache, one_id, first_met, all_steps, popped, key}
 use Rattle.plan.proofs.Counts.{T_of, not_both, stands_in, only}

@@ -1,4 +1,5 @@
 -- More fuel changes no look, once there is enough for the height of the tree.
+use Rattle.std.specs.Prelude.{if◌then◌else◌}
 use mathlib.Core.Path.{◌≡◌, ap, ◌∙◌, subst, refl}
 use Prim.Native.Nat.{ℕ, zero, suc, ◌<◌}
 use native.Mathlib.Omega.{arith}
@@ -14,7 +15,7 @@ use Rattle.plan.specs.declared.looks.Before.{Before}
 use Rattle.plan.specs.declared.orders.ExprOrderAcc.{ExprOrderAcc}
 use Rattle.plan.specs.declared.orders.ObservableOrders.{ObservableOrders}
 use Rattle.plan.specs.Kinds.{same_aexpr}
-use Rattle.plan.specs.Lists.{if◌then◌else◌, all?}
+use Rattle.plan.specs.Lists.{all?}
 use Rattle.plan.specs.Sheet.{Expr, expr_at}
 use Rattle.plan.specs.Orders.{add, no_orders}
 use Rattle.plan.specs.Look.{Eos, Look, look, look_along, look_along_children, look_again, look_whole, look_ended, look_at, one_look, enter_struct, switched_off, after, in_order, before, check_return_cached, is_replaced, replace_by_input, ALLOW_DEORDER, NO_DEORDER}

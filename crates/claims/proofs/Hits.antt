@@ -1,4 +1,5 @@
 -- The first pass pops every root and every naming, so that a cache is met as often as it is named.
+use Rattle.std.specs.Prelude.{if◌then◌else◌}
 use mathlib.Core.Path.{◌≡◌, refl}
 use mathlib.Core.Logic.{inl, inr, ◌≢◌}
 use Prim.Native.Nat.{ℕ, zero, suc, ◌+◌, ◌≤◌, ◌<◌}
@@ -8,7 +9,7 @@ use mathlib.Core.List.Memᴰ
 use mathlib.Core.List.{List, [], ◌∷◌, ◌++◌, reverse, Memᴰ}
 use lib.Dec.{T}
 use lib.ListN.{length, length-append}
-use Rattle.plan.specs.Lists.{if◌then◌else◌, any?, sum, among, times}
+use Rattle.plan.specs.Lists.{any?, sum, among, times}
 use Rattle.plan.specs.Sheet.{Step, step_at}
 use Rattle.plan.specs.Faults.{named}
 use Rattle.plan.specs.Graph.{sinks, is_cache, most_places}

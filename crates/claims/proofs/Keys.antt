@@ -1,4 +1,5 @@
 -- The key of a step: of the Cache lines with one id one and the same, of any other step its own line.
+use Rattle.std.specs.Prelude.{if◌then◌else◌}
 use mathlib.Core.Path.{◌≡◌, refl, ap, sym, ◌∙◌, subst}
 use mathlib.Core.Logic.{◌⊎◌, inl, inr}
 use Prim.Native.Nat.{ℕ, zero, suc, ◌+◌, ◌≤◌, ◌<◌}
@@ -10,7 +11,7 @@ use mathlib.Core.List.{List, [], ◌∷◌, ◌++◌, map, Memᴰ}
 use lib.Dec.{T, eqb, eqb→eq}
 use lib.ListN.{length}
 use Rattle.plan.specs.Kinds.{ir_number}
-use Rattle.plan.specs.Lists.{if◌then◌else◌, any?, numbered}
+use Rattle.plan.specs.Lists.{any?, numbered}
 use Rattle.plan.specs.Sheet.{Step, step_at}
 use Rattle.plan.specs.Graph.{is_cache, one_id, first_met, all_steps, popped, key}
 use Rattle.plan.proofs.ListLaws.{and_left, and_right}

@@ -1,4 +1,5 @@
 -- What the downward walk keeps of the links between sorts and edges.
+use Rattle.std.specs.Prelude.{if◌then◌else◌}
 use mathlib.Core.Path.{◌≡◌, refl, ap, sym, ◌∙◌, subst}
 use mathlib.Core.Logic.{inl, inr, ◌≢◌}
 use Prim.Native.Nat.{ℕ, ◌+◌, ◌≤◌}
@@ -10,7 +11,7 @@ use mathlib.Core.Option.{Option, some}
 use lib.Dec.{T, eqb, eqb→eq, eqb_refl}
 use lib.ListN.{get_or, length-map}
 use Rattle.plan.specs.declared.ir.IR.{IR}
-use Rattle.plan.specs.Lists.{if◌then◌else◌, sum, times}
+use Rattle.plan.specs.Lists.{sum, times}
 use Rattle.plan.specs.Sheet.{Step, done, step_at}
 use Rattle.plan.specs.Graph.{Edge}
 use Rattle.plan.specs.Visit.{Run, simplify_ir_node_orders, goes, unlink_node, loosened, relinked, is_into, is_out_of, no_edge, out_edge, in_edge, settled_by}

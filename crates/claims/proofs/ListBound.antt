@@ -1,4 +1,5 @@
 -- The looks of a list: at most n × (n + 5) ÷ 2, where its trees hold n records.
+use Rattle.std.specs.Prelude.{if◌then◌else◌}
 use mathlib.Core.Path.{◌≡◌, refl}
 use Prim.Native.Nat.{ℕ, zero, suc, ◌+◌, ◌*◌, ◌-◌, ◌≤◌, ◌<◌}
 use native.Mathlib.Omega.{arith}
@@ -7,7 +8,7 @@ use mathlib.Core.Bool.{Bool, true, false, ◌&&◌}
 use mathlib.Core.List.{List, [], ◌∷◌, Memᴰ}
 use lib.Dec.{T}
 use lib.ListN.{length}
-use Rattle.plan.specs.Lists.{if◌then◌else◌, sum}
+use Rattle.plan.specs.Lists.{sum}
 use Rattle.plan.specs.Sheet.{Expr, expr_at}
 use Rattle.plan.specs.Orders.{∅, no_orders, single}
 use Rattle.plan.specs.Look.{Eos, Look, look, look_along, simplify_projected_exprs, internal_observe, NO_DEORDER}

@@ -1,4 +1,5 @@
 -- Who looks at a child again, and at which.
+use Rattle.std.specs.Prelude.{if◌then◌else◌}
 use mathlib.Core.Path.{◌≡◌, refl}
 use mathlib.Core.Logic.{◌⊎◌, inl, inr}
 use Prim.Native.Nat.{ℕ, ◌+◌, ◌≤◌}
@@ -14,7 +15,7 @@ use Rattle.plan.specs.declared.looks.Before.{Before}
 use Rattle.plan.specs.declared.orders.ExprOrderAcc.{ExprOrderAcc}
 use Rattle.plan.specs.declared.orders.ObservableOrders.{ObservableOrders}
 use Rattle.plan.specs.FunctionFlags.{observes_input_order, terminates_input_order}
-use Rattle.plan.specs.Lists.{if◌then◌else◌, sum, first_last}
+use Rattle.plan.specs.Lists.{sum, first_last}
 use Rattle.plan.specs.Sheet.{Expr}
 use Rattle.plan.specs.Orders.{no_orders, add, single, is_empty}
 use Rattle.plan.specs.Look.{Eos, Look, before, after, in_order, enter_struct, look_along, look_along_children, NO_DEORDER}

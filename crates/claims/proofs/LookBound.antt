@@ -1,4 +1,5 @@
 -- Every look keeps to what looks cost.
+use Rattle.std.specs.Prelude.{if◌then◌else◌}
 use mathlib.Core.Path.{◌≡◌, refl, ap, sym, ◌∙◌, subst}
 use mathlib.Core.Logic.{◌≢◌}
 use Prim.Native.Nat.{ℕ, zero, suc, ◌+◌, ◌-◌, ◌≤◌}
@@ -13,7 +14,7 @@ use Rattle.plan.specs.declared.aexpr.AExpr.{AExpr}
 use Rattle.plan.specs.declared.looks.Before.{Before}
 use Rattle.plan.specs.declared.orders.ObservableOrders.{ObservableOrders}
 use Rattle.plan.specs.Kinds.{same_aexpr}
-use Rattle.plan.specs.Lists.{if◌then◌else◌, all?, sum, yes?}
+use Rattle.plan.specs.Lists.{all?, sum, yes?}
 use Rattle.plan.specs.Sheet.{Expr, no_expr, expr_at}
 use Rattle.plan.specs.Orders.{∅, no_orders, is_empty}
 use Rattle.plan.specs.Look.{Eos, Look, look, look_along, look_along_children, look_again, look_at, look_whole, look_ended, one_look, with_field, with_arena, check_return_cached, is_replaced, before, After, after, in_order, loses_order, switched_off, replace_implode, cache_output, internal_observe, enter_struct, NO_DEORDER}

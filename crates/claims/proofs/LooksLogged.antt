@@ -1,4 +1,5 @@
 -- The log of the looks: it has an entry for each look that the tally counts, and each is a record of the tree looked at.
+use Rattle.std.specs.Prelude.{if◌then◌else◌}
 use mathlib.Core.Path.{◌≡◌, subst}
 use mathlib.Core.Logic.{inl, inr}
 use Prim.Native.Nat.{ℕ, zero, suc, ◌+◌, ◌≤◌}
@@ -14,7 +15,7 @@ use Rattle.plan.specs.declared.aexpr.AExpr.{AExpr}
 use Rattle.plan.specs.declared.orders.ExprOrderAcc.{ExprOrderAcc}
 use Rattle.plan.specs.declared.orders.ObservableOrders.{ObservableOrders}
 use Rattle.plan.specs.Kinds.{same_aexpr}
-use Rattle.plan.specs.Lists.{if◌then◌else◌, all?, sum}
+use Rattle.plan.specs.Lists.{all?, sum}
 use Rattle.plan.specs.Sheet.{expr_at}
 use Rattle.plan.specs.Orders.{∅, no_orders, add, single}
 use Rattle.plan.specs.Look.{Eos, Look, before, after, in_order, check_return_cached, is_replaced, replace_by_input, enter_struct, internal_observe, one_look, look, look_along, look_along_children, look_again, look_whole, look_ended, look_at, simplify_projected_exprs, ALLOW_DEORDER, NO_DEORDER}

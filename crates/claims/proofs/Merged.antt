@@ -1,5 +1,6 @@
 -- A plan with one line for each key: a Cache line that is no key stands empty, and namings go by key. The graph of a plan is that of its
 -- merged plan, line by line.
+use Rattle.std.specs.Prelude.{if◌then◌else◌}
 use mathlib.Core.Path.{◌≡◌, refl, ap, ap₂, sym, ◌∙◌, subst}
 use mathlib.Core.Logic.{◌≢◌}
 use Prim.Native.Nat.{ℕ, zero, suc, ◌+◌, ◌-◌, ◌≤◌, ◌<◌}
@@ -13,7 +14,7 @@ use lib.Dec.{T, eqb, eqb→eq}
 use lib.ListN.{length, get_or, length-append, length-map, get_or-eq_default}
 use Rattle.plan.specs.declared.ir.IR.{IR}
 use Rattle.plan.specs.Kinds.{ir_number, same_ir}
-use Rattle.plan.specs.Lists.{if◌then◌else◌, any?, select, sum, concat_map, numbered, among, times}
+use Rattle.plan.specs.Lists.{any?, select, sum, concat_map, numbered, among, times}
 use Rattle.plan.specs.Sheet.{Step, no_step, step_at}
 use Rattle.plan.specs.Faults.{named}
 use Rattle.plan.specs.Graph.{Edge, sinks, is_cache, one_id, most_places, key, all_steps, first_met, pop, popped, pushes, hits, opens, following, edges_into, grow, build_ir_traversal_graph, graph}

@@ -1,4 +1,5 @@
 -- The merged plan where each id has one Cache line, as on a well-formed sheet: every step is its own key, and nothing is merged.
+use Rattle.std.specs.Prelude.{if◌then◌else◌}
 use mathlib.Core.Path.{◌≡◌, refl, ap, ap₂, sym, ◌∙◌, subst}
 use mathlib.Core.Logic.{inl, inr}
 use Prim.Native.Nat.{ℕ, suc, ◌+◌, ◌≤◌, ◌<◌}
@@ -8,7 +9,7 @@ use mathlib.Core.List.{List, [], ◌∷◌, ◌++◌, map}
 use lib.Dec.{T}
 use lib.ListN.{length}
 use Rattle.plan.specs.declared.ir.IR.{IR}
-use Rattle.plan.specs.Lists.{if◌then◌else◌, numbered, times}
+use Rattle.plan.specs.Lists.{numbered, times}
 use Rattle.plan.specs.Sheet.{Step, Sheet, step_at}
 use Rattle.plan.specs.Graph.{sinks, is_cache, one_id, first_met, all_steps, popped, key, hits, Edge, graph, update_cache_nodes}
 use Rattle.plan.specs.Faults.{named}

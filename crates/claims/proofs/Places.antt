@@ -1,4 +1,5 @@
 -- The second pass: in the visiting list an input stands after every place of its consumer, and each place but a root's has an edge.
+use Rattle.std.specs.Prelude.{if◌then◌else◌}
 use mathlib.Core.Path.{◌≡◌, refl, ap, sym, ◌∙◌, subst}
 use mathlib.Core.Logic.{◌⊎◌, inl, inr, ◌≢◌}
 use Prim.Native.Nat.{ℕ, zero, suc, ◌+◌, ◌≤◌, ◌<◌}
@@ -11,7 +12,7 @@ use mathlib.Core.List.{List, [], ◌∷◌, ◌++◌, map, reverse, Memᴰ, appe
 use mathlib.Core.Option.{some}
 use lib.Dec.{T, eqb, leb, eqb→eq, leb→le, le→leb}
 use lib.ListN.{length, get_or}
-use Rattle.plan.specs.Lists.{if◌then◌else◌, sum, times, numbered}
+use Rattle.plan.specs.Lists.{sum, times, numbered}
 use Rattle.plan.specs.Sheet.{Step, step_at}
 use Rattle.plan.specs.Faults.{named}
 use Rattle.plan.specs.Graph.{Edge, sinks, is_cache, most_places}

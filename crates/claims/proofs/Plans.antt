@@ -1,4 +1,5 @@
 -- The plan of a well-formed sheet: how often its steps are named (refusals 7, 8, 12 and 13).
+use Rattle.std.specs.Prelude.{if◌then◌else◌}
 use mathlib.Core.Path.{◌≡◌, refl, ap, sym, ◌∙◌, subst}
 use mathlib.Core.Logic.{inl, ◌≢◌}
 use Prim.Native.Nat.{ℕ, zero, suc, ◌+◌, ◌≤◌, ◌<◌}
@@ -11,7 +12,7 @@ use lib.Dec.{T, eqb, ltb, leb, eqb→eq, leb→le, T_not}
 use lib.ListN.{length, get_or-eq_default}
 use Rattle.plan.specs.declared.ir.IR.{IR}
 use Rattle.plan.specs.Kinds.{ir_number, same_ir}
-use Rattle.plan.specs.Lists.{if◌then◌else◌, select, sum, numbered, times}
+use Rattle.plan.specs.Lists.{select, sum, numbered, times}
 use Rattle.plan.specs.Sheet.{Step, Sheet, no_step, step_at, in_step_table}
 use Rattle.plan.specs.Faults.{references_right, inputs_earlier, exprs_there, use_right, named, named_right}
 use Rattle.plan.specs.Graph.{sinks, is_cache}

@@ -1,5 +1,6 @@
 -- What looks cost: a look at p makes at most size p + Φ before p − Φ after p looks, where Φ p is the sum of (size v − 1) over the
 -- records v of p's tree that are not cached.
+use Rattle.std.specs.Prelude.{if◌then◌else◌}
 use mathlib.Core.Path.{◌≡◌, refl, ap, ◌∙◌}
 use Prim.Native.Nat.{ℕ, ◌+◌, ◌-◌, ◌≤◌}
 use native.Mathlib.Omega.{arith}
@@ -11,7 +12,7 @@ use lib.ListN.{take, drop}
 use lib.Seq.{get_or-set_other}
 use Rattle.plan.specs.declared.orders.ExprOrderAcc.{ExprOrderAcc}
 use Rattle.plan.specs.declared.orders.ObservableOrders.{ObservableOrders}
-use Rattle.plan.specs.Lists.{if◌then◌else◌, sum}
+use Rattle.plan.specs.Lists.{sum}
 use Rattle.plan.specs.Sheet.{Expr, no_expr, expr_at}
 use Rattle.plan.specs.Orders.{add}
 use Rattle.plan.specs.Look.{Eos, Look, look_along, look_again, one_look, ALLOW_DEORDER, replace_by_input}

@@ -1,4 +1,5 @@
 -- What is printed is small as a run begins: the records by the tables, the edges as the graph is built.
+use Rattle.std.specs.Prelude.{if◌then◌else◌}
 use mathlib.Core.Path.{refl}
 use mathlib.Core.Logic.{inl, inr}
 use Prim.Native.Nat.{ℕ, zero, suc, ◌+◌, ◌≤◌, ◌<◌}
@@ -11,7 +12,7 @@ use lib.Dec.{T, ltb, ltb→lt}
 use lib.ListN.{length, get_or}
 use Rattle.plan.specs.declared.ir.IR.{IR}
 use Rattle.plan.specs.Kinds.{same_ir}
-use Rattle.plan.specs.Lists.{if◌then◌else◌, select, numbered}
+use Rattle.plan.specs.Lists.{select, numbered}
 use Rattle.plan.specs.Sheet.{Step, Sheet, ◌then◌, no_expr, no_step, expr_at, step_at, in_expr_table, in_step_table}
 use Rattle.plan.specs.Faults.{references_right, inputs_earlier, exprs_there}
 use Rattle.plan.specs.Graph.{Edge, key, build_ir_traversal_graph, graph, grow, popped, following, opens, edges_into, sinks, most_places}

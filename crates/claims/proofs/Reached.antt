@@ -1,4 +1,5 @@
 -- Both passes of the graph: a pass that puts down the roots, and the inputs of each step that it opens, puts down every naming.
+use Rattle.std.specs.Prelude.{if◌then◌else◌}
 use mathlib.Core.Path.{◌≡◌, refl, ap, sym, subst}
 use mathlib.Core.Logic.{◌⊎◌, inl, inr, ◌≢◌}
 use Prim.Native.Nat.{ℕ, zero, suc, ◌+◌, ◌≤◌, ◌<◌}
@@ -9,7 +10,7 @@ use mathlib.Core.Bool.{Bool, true, false}
 use mathlib.Core.List.{List, [], ◌∷◌, Memᴰ}
 use lib.Dec.{T, eqb}
 use lib.ListN.{length, get_or}
-use Rattle.plan.specs.Lists.{if◌then◌else◌, sum, numbered, times}
+use Rattle.plan.specs.Lists.{sum, numbered, times}
 use Rattle.plan.specs.Sheet.{Step, no_step, step_at}
 use Rattle.plan.specs.Faults.{named}
 use Rattle.plan.specs.Graph.{sinks}

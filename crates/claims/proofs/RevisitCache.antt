@@ -1,4 +1,5 @@
 -- Which records the revisit cache has an answer for.
+use Rattle.std.specs.Prelude.{if◌then◌else◌}
 use mathlib.Core.Path.{◌≡◌}
 use Prim.Native.Nat.{ℕ}
 use native.Mathlib.Omega.{arith}
@@ -7,7 +8,6 @@ use mathlib.Core.Option.{Option, none, some}
 use lib.Dec.{T, eqb, eqb_refl}
 use Rattle.plan.specs.declared.looks.Before.{Before}
 use Rattle.plan.specs.declared.orders.ObservableOrders.{ObservableOrders}
-use Rattle.plan.specs.Lists.{if◌then◌else◌}
 use Rattle.plan.specs.Look.{Eos, cache_output, check_return_cached}
 
 abbrev is_some : Option ObservableOrders → Bool

@@ -1,4 +1,5 @@
 -- What a rule leaves of a step's options: the kind, unless it becomes a Union, and that each fits a byte.
+use Rattle.std.specs.Prelude.{if◌then◌else◌}
 use mathlib.Core.Path.{◌≡◌, refl}
 use mathlib.Core.Logic.{◌⊎◌, inl, inr}
 use Prim.Native.Nat.{ℕ, ◌≤◌}
@@ -14,7 +15,6 @@ use Rattle.plan.specs.declared.rules.Observable.{Observable}
 use Rattle.plan.specs.declared.rules.Ruled.{Ruled}
 use Rattle.plan.specs.Kinds.{keep_strategy_number, maintain_order_number, join_type, same_join_type}
 use Rattle.plan.specs.FunctionIR.{Functions, rust_functions}
-use Rattle.plan.specs.Lists.{if◌then◌else◌}
 use Rattle.plan.specs.Visit.{Run, looked_in, arm, options_of, unmaintained_if, unordered_union, merge_sorted_all, kept_by_rhs, distinct_out, distinct_in, distinct_keeps, sink_in, sort_in, group_by_out, union_all, ruling_of}
 use Rattle.plan.proofs.Settling.{ruling}
 

@@ -1,4 +1,5 @@
 -- The limits of a run, at every visit: arena, steps, edges, visits and looks.
+use Rattle.std.specs.Prelude.{if◌then◌else◌}
 use mathlib.Core.Path.{◌≡◌, refl, subst, sym}
 use mathlib.Core.Logic.{inl, inr}
 use Prim.Native.Nat.{ℕ, zero, suc, ◌+◌, ◌*◌, ◌≤◌, ◌^◌}
@@ -10,7 +11,7 @@ use lib.Dec.{T, ltb, nltb→le}
 use lib.ListN.{length, get_or, length-set, length-map}
 use Rattle.plan.specs.declared.ir.IR.{IR}
 use Rattle.plan.specs.Kinds.{same_ir}
-use Rattle.plan.specs.Lists.{if◌then◌else◌, sum}
+use Rattle.plan.specs.Lists.{sum}
 use Rattle.plan.specs.Sheet.{Expr, Step, Sheet, done, no_step, expr_at, step_at, expr_count, over_limits}
 use Rattle.plan.specs.Graph.{graph}
 use Rattle.plan.specs.Visit.{Run, simplify_ir_node_orders, unlink_node, looked_in, looks_of, out_edge, with_input, ruling_of, settled_by}

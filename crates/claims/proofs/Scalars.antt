@@ -1,4 +1,5 @@
 -- The aggs of a GroupBy keep their scalar flags: the looks along the n3 list are without leave, and no other look meets them.
+use Rattle.std.specs.Prelude.{if◌then◌else◌}
 use mathlib.Core.Path.{◌≡◌, refl, ap, ◌∙◌, subst, sym}
 use mathlib.Core.Logic.{inl, inr}
 use Prim.Native.Nat.{ℕ, ◌≤◌}
@@ -9,7 +10,7 @@ use mathlib.Core.List.{List, [], ◌∷◌, ◌++◌, Memᴰ}
 use lib.ListN.{length}
 use Rattle.plan.specs.declared.orders.ExprOrderAcc.{ExprOrderAcc}
 use Rattle.plan.specs.declared.orders.ObservableOrders.{ObservableOrders}
-use Rattle.plan.specs.Lists.{if◌then◌else◌, sum}
+use Rattle.plan.specs.Lists.{sum}
 use Rattle.plan.specs.Sheet.{Expr, expr_at}
 use Rattle.plan.specs.Orders.{∅, add, no_orders, single}
 use Rattle.plan.specs.Look.{Eos, Look, look, look_along, look_again, simplify_projected_exprs, internal_observe, NO_DEORDER}

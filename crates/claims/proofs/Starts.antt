@@ -1,4 +1,5 @@
 -- The links between sorts and edges when the downward walk begins.
+use Rattle.std.specs.Prelude.{if◌then◌else◌}
 use mathlib.Core.Path.{◌≡◌, refl, ap, sym, ◌∙◌, subst}
 use mathlib.Core.Logic.{inl, inr, ◌≢◌}
 use Prim.Native.Nat.{ℕ, ◌+◌, ◌≤◌, ◌<◌}
@@ -11,7 +12,7 @@ use lib.Dec.{T}
 use lib.ListN.{length, get_or}
 use Rattle.plan.specs.declared.ir.IR.{IR}
 use Rattle.plan.specs.Kinds.{ir_number, same_ir}
-use Rattle.plan.specs.Lists.{if◌then◌else◌, sum, times}
+use Rattle.plan.specs.Lists.{sum, times}
 use Rattle.plan.specs.Sheet.{Step, Sheet, step_at}
 use Rattle.plan.specs.Faults.{named}
 use Rattle.plan.specs.Graph.{Edge, key, graph, sinks, is_cache}

@@ -1,4 +1,5 @@
 -- Sorts without slice: no visit makes or ends one, and one that stays keeps an ordered edge until its visit on the way up.
+use Rattle.std.specs.Prelude.{if◌then◌else◌}
 use mathlib.Core.Path.{◌≡◌, refl, ap, sym, ◌∙◌, subst}
 use mathlib.Core.Logic.{inl, inr}
 use Prim.Native.Nat.{ℕ, ◌<◌}
@@ -14,7 +15,7 @@ use Rattle.plan.specs.declared.ir.IR.{IR}
 use Rattle.plan.specs.Kinds.{same_ir, join_type, same_join_type}
 use Rattle.plan.specs.declared.join.JoinType.{JoinType}
 use Rattle.plan.specs.FunctionIR.{Functions, rust_functions}
-use Rattle.plan.specs.Lists.{if◌then◌else◌, yes?}
+use Rattle.plan.specs.Lists.{yes?}
 use Rattle.plan.specs.Sheet.{Step, done, no_step, step_at}
 use Rattle.plan.specs.Graph.{Edge}
 use Rattle.plan.specs.declared.rules.Options.{Options}

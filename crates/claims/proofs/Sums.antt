@@ -1,4 +1,5 @@
 -- Sums over lists, and over all numbers below a given one.
+use Rattle.std.specs.Prelude.{if◌then◌else◌}
 use mathlib.Core.Path.{◌≡◌, refl, ap}
 use mathlib.Core.Logic.{◌⊎◌, inl, inr}
 use Prim.Native.Nat.{ℕ, zero, suc, ◌+◌, ◌≤◌, ◌<◌}
@@ -10,7 +11,7 @@ use mathlib.Core.List.Memᴰ
 use mathlib.Core.List.{List, [], ◌∷◌, Memᴰ}
 use lib.Dec.{T, eqb, eqb_refl}
 use lib.ListN.{length, get_or, set}
-use Rattle.plan.specs.Lists.{if◌then◌else◌, sum}
+use Rattle.plan.specs.Lists.{sum}
 use borrow.Author.Tests.{ne_eqb}
 use Rattle.plan.proofs.Counts.{only}
 

@@ -1,4 +1,5 @@
 -- The looks of a visit add no visit to the tally.
+use Rattle.std.specs.Prelude.{if◌then◌else◌}
 use mathlib.Core.Path.{◌≡◌, refl, ◌∙◌}
 use Prim.Native.Nat.{ℕ, zero, suc}
 use mathlib.Core.Bool.{Bool, true, false, ◌&&◌}
@@ -8,7 +9,6 @@ use lib.ListN.{length, take, drop}
 use Rattle.plan.specs.declared.looks.Before.{Before}
 use Rattle.plan.specs.declared.orders.ExprOrderAcc.{ExprOrderAcc}
 use Rattle.plan.specs.declared.orders.ObservableOrders.{ObservableOrders}
-use Rattle.plan.specs.Lists.{if◌then◌else◌}
 use Rattle.plan.specs.Sheet.{Expr, Step, expr_at, step_at}
 use Rattle.plan.specs.Orders.{∅, no_orders, add, single}
 use Rattle.plan.specs.Look.{Eos, one_look, internal_observe, before, in_order, check_return_cached, is_replaced, replace_by_input, after, enter_struct, Look, look_along, look_again, look_along_children, look_ended, look_whole, look_at, look, simplify_projected_exprs, NO_DEORDER}

@@ -1,4 +1,5 @@
 -- A property of a run and of the places that it has still to visit: kept by each visit, it holds along the whole walk.
+use Rattle.std.specs.Prelude.{if◌then◌else◌}
 use mathlib.Core.Path.{◌≡◌, refl, sym, subst}
 use mathlib.Core.Logic.{◌⊎◌, inl, inr}
 use Prim.Native.Nat.{ℕ}
@@ -6,7 +7,6 @@ use mathlib.Core.Bool.{Bool, true, false}
 use mathlib.Core.List.Memᴰ
 use mathlib.Core.List.{List, [], ◌∷◌, Memᴰ}
 use lib.Dec.{eqb}
-use Rattle.plan.specs.Lists.{if◌then◌else◌}
 use Rattle.plan.specs.Sheet.{Outcome, refused, done, ◌then◌}
 use Rattle.plan.specs.Visit.{Run, simplify_ir_node_orders, goes, unlink_node, settle}
 use Rattle.plan.proofs.Settling.{settled, refusal_in}

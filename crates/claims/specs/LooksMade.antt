@@ -1,11 +1,10 @@
 -- The records that the looks of a list are at: an entry for each look, in the order in which they are made. It goes along with
 -- the definition of the look, whose states it reads, and counts nothing: that it has as many entries as the tally counts is proved.
-use Rattle.std.specs.Prelude.{ℕ, zero, suc, Bool, true, false, ◌&&◌, List, [], ◌∷◌, ◌++◌, length, take, drop}
+use Rattle.std.specs.Prelude.{ℕ, zero, suc, Bool, true, false, ◌&&◌, List, [], ◌∷◌, ◌++◌, length, take, drop, if◌then◌else◌}
 use Rattle.std.proofs.Math.Option.{Option, none, some}
 use Rattle.plan.specs.declared.looks.Before.{Before}
 use Rattle.plan.specs.declared.orders.ExprOrderAcc.{ExprOrderAcc}
 use Rattle.plan.specs.declared.orders.ObservableOrders.{ObservableOrders}
-use Rattle.plan.specs.Lists.{if◌then◌else◌}
 use Rattle.plan.specs.Sheet.{Expr, expr_at}
 use Rattle.plan.specs.Orders.{∅, no_orders, single}
 use Rattle.plan.specs.Look.{Eos, Look, before, after, in_order, check_return_cached, is_replaced, replace_by_input, enter_struct, internal_observe, one_look, look, look_along, look_along_children, ALLOW_DEORDER, NO_DEORDER}

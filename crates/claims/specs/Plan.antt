@@ -1,9 +1,9 @@
 -- What the graph rests on: the steps of a plan, as refusals 7, 8, 12 and 13 leave them.
-use Rattle.std.specs.Prelude.{◌≡◌, ◌⊎◌, ℕ, ◌+◌, ◌≤◌, ◌<◌, not, T, length}
+use Rattle.std.specs.Prelude.{◌≡◌, ◌⊎◌, ℕ, ◌+◌, ◌≤◌, ◌<◌, not, T, length, if◌then◌else◌}
 use mathlib.Core.List.{List, [], Memᴰ}
 use Rattle.plan.specs.declared.ir.IR.{IR}
 use Rattle.plan.specs.Kinds.{same_ir}
-use Rattle.plan.specs.Lists.{if◌then◌else◌, times}
+use Rattle.plan.specs.Lists.{times}
 use Rattle.plan.specs.Sheet.{Step, step_at}
 use Rattle.plan.specs.Faults.{named}
 use Rattle.plan.specs.Graph.{sinks, is_cache, one_id}

@@ -1,4 +1,5 @@
 -- One child more of a look along the children; its end; a record without children; and what a record reads of the answers.
+use Rattle.std.specs.Prelude.{if◌then◌else◌}
 use mathlib.Core.Path.{◌≡◌, refl, ◌∙◌}
 use Prim.Native.Nat.{ℕ, zero, suc, ◌+◌, ◌<◌, ◌≤◌}
 use native.Mathlib.Omega.{arith}
@@ -14,7 +15,7 @@ use Rattle.plan.specs.declared.looks.Before.{Before}
 use Rattle.plan.specs.declared.orders.ExprOrderAcc.{ExprOrderAcc}
 use Rattle.plan.specs.declared.orders.ObservableOrders.{ObservableOrders}
 use Rattle.plan.specs.Kinds.{same_aexpr}
-use Rattle.plan.specs.Lists.{if◌then◌else◌, first_last}
+use Rattle.plan.specs.Lists.{first_last}
 use Rattle.plan.specs.Sheet.{Expr}
 use Rattle.plan.specs.Orders.{no_orders, add}
 use Rattle.plan.specs.Look.{NO_DEORDER, Eos, with_field, in_order, after, enter_struct, Look, look_along, look_along_children}

@@ -1,4 +1,5 @@
 -- Laws of the answers of the first three children.
+use Rattle.std.specs.Prelude.{if◌then◌else◌}
 use mathlib.Core.Path.{◌≡◌, refl}
 use Prim.Native.Nat.compare
 use Prim.Native.Nat.{ℕ, zero, suc}
@@ -8,7 +9,6 @@ use native.Mathlib.Omega.{arith}
 use borrow.Author.Tests.{ne_eqb}
 use lib.ListN.{length, get_or}
 use Rattle.plan.specs.declared.orders.ObservableOrders.{ObservableOrders}
-use Rattle.plan.specs.Lists.{if◌then◌else◌}
 use Rattle.plan.specs.Orders.{∅}
 use Rattle.expr.specs.declared.seen.Seen.{Seen}
 use Rattle.expr.specs.Seen.{Adds, Sees}

@@ -1,4 +1,5 @@
 -- What the loop of a look along the children asks and gives, a law for each place in it.
+use Rattle.std.specs.Prelude.{if◌then◌else◌}
 use mathlib.Core.Path.{◌≡◌, refl, sym, ◌∙◌}
 use Prim.Native.Nat.{ℕ, zero, suc, ◌+◌, ◌<◌, ◌≤◌}
 use native.Mathlib.Nat.{le_refl, lt_of_le_of_lt, lt_of_lt_of_le}
@@ -12,7 +13,6 @@ use Rattle.plan.specs.declared.looks.Before.{Before}
 use Rattle.plan.specs.declared.orders.ObservableOrders.{ObservableOrders}
 use Rattle.plan.specs.declared.tally.Tally.{Tally}
 use Rattle.plan.specs.Kinds.{same_aexpr}
-use Rattle.plan.specs.Lists.{if◌then◌else◌}
 use Rattle.plan.specs.Sheet.{Expr}
 use Rattle.plan.specs.Orders.{add}
 use Rattle.plan.specs.Look.{NO_DEORDER, in_order, look_along_children, look}

@@ -1,4 +1,5 @@
 -- A look at a leaf: a record of the first five kinds without children.
+use Rattle.std.specs.Prelude.{if◌then◌else◌}
 use mathlib.Core.Path.{◌≡◌, refl, sym, ap, ◌∙◌, subst}
 use Prim.Native.Nat.{ℕ, zero, suc, ◌+◌, ◌*◌, ◌<◌}
 use native.Mathlib.Omega.{arith}
@@ -12,7 +13,6 @@ use Rattle.plan.specs.declared.aexpr.AExpr.{AExpr}
 use Rattle.plan.specs.declared.orders.ObservableOrders.{ObservableOrders}
 use Rattle.plan.specs.declared.tally.Tally.{Tally}
 use Rattle.plan.specs.Kinds.{aexpr, same_aexpr}
-use Rattle.plan.specs.Lists.{if◌then◌else◌}
 use Rattle.plan.specs.Sheet.{Expr}
 use Rattle.plan.specs.Orders.{∅, COLUMN, INDEPENDENT, ◌∪◌, no_orders}
 use Rattle.plan.specs.Look.{Eos, one_look, before, in_order, check_return_cached, is_replaced, after, plain, enter_struct, look_ended, look}

@@ -1,4 +1,5 @@
 -- What the code's list of projected expressions asks and gives, a law for each place in it.
+use Rattle.std.specs.Prelude.{if◌then◌else◌}
 use mathlib.Core.Path.{◌≡◌, refl, sym, ap, ◌∙◌, fun_ext}
 use Prim.Native.Nat.{ℕ, suc, ◌+◌, ◌<◌, ◌≤◌, ◌^◌}
 use native.Mathlib.Nat.{le_refl, lt_of_le_of_lt}
@@ -12,7 +13,6 @@ use borrow.Author.Tests.{eqb-true}
 use Rattle.plan.specs.declared.orders.ExprOrderAcc.{ExprOrderAcc}
 use Rattle.plan.specs.declared.orders.ObservableOrders.{ObservableOrders}
 use Rattle.plan.specs.declared.tally.Tally.{Tally}
-use Rattle.plan.specs.Lists.{if◌then◌else◌}
 use Rattle.plan.specs.Orders.{∅, ◌∪◌, no_orders, add, single}
 use Rattle.plan.specs.Look.{NO_DEORDER, internal_observe, Look, look_along, look_again, look, simplify_projected_exprs}
 use Rattle.plan.specs.Look as plan

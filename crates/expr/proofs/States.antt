@@ -1,4 +1,5 @@
 -- Laws of the code's state: what its changes are to the definition's, and what they keep.
+use Rattle.std.specs.Prelude.{if◌then◌else◌}
 use mathlib.Core.Path.{◌≡◌, refl, ap, ◌∙◌}
 use Prim.Native.Nat.{ℕ, ◌+◌, ◌<◌, ◌≤◌}
 use native.Mathlib.Nat.{le_refl, le_trans}
@@ -13,7 +14,7 @@ use Rattle.plan.specs.declared.aexpr.AExpr.{AExpr}
 use Rattle.plan.specs.declared.orders.ExprOrderAcc.{ExprOrderAcc}
 use Rattle.plan.specs.declared.orders.ObservableOrders.{ObservableOrders}
 use Rattle.plan.specs.Kinds.{same_aexpr}
-use Rattle.plan.specs.Lists.{if◌then◌else◌, yes?}
+use Rattle.plan.specs.Lists.{yes?}
 use Rattle.plan.specs.Sheet.{expr_at}
 use Rattle.plan.specs.Orders.{∅, ◌∪◌, is_empty, add}
 use Rattle.plan.specs.declared.tally.Tally.{Tally}

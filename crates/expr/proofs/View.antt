@@ -1,4 +1,5 @@
 -- The code's lines and the definition's arena: reading a line, copying one over another, switching one off; an entry of the cache.
+use Rattle.std.specs.Prelude.{if◌then◌else◌}
 use mathlib.Core.Path.{◌≡◌, refl, sym, ◌∙◌, fun_ext}
 use Prim.Native.Nat.{ℕ, ◌<◌}
 use mathlib.Core.Bool.{Bool, true, false, ◌||◌, or-false}
@@ -9,7 +10,6 @@ use lib.ListN.{length, get_or, set, length-set}
 use lib.Seq.{ext_get_or, get_or-set_same, get_or-set_other, set-get_or}
 use borrow.Author.Tests.{eqb-true, eqb-false}
 use Rattle.plan.specs.declared.orders.ObservableOrders.{ObservableOrders}
-use Rattle.plan.specs.Lists.{if◌then◌else◌}
 use Rattle.plan.specs.Sheet.{no_expr, expr_at}
 use Rattle.plan.specs.Look.{with_entry, switched_off}
 use Rattle.storage.specs.Stored.{held_expr, arena_of}

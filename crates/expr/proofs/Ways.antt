@@ -1,4 +1,5 @@
 -- What the code's look asks and gives, a law for each way through it.
+use Rattle.std.specs.Prelude.{if◌then◌else◌}
 use mathlib.Core.Path.{◌≡◌, refl, sym, ap, ◌∙◌}
 use Prim.Native.Nat.{ℕ, zero, suc, ◌+◌, ◌*◌, ◌<◌, ◌≤◌, ◌^◌}
 use native.Mathlib.Nat.{le_of_lt, lt_of_le_of_lt, lt_of_lt_of_le}
@@ -16,7 +17,7 @@ use Rattle.plan.specs.declared.orders.ExprOrderAcc.{ExprOrderAcc}
 use Rattle.plan.specs.declared.orders.ObservableOrders.{ObservableOrders}
 use Rattle.plan.specs.declared.tally.Tally.{Tally}
 use Rattle.plan.specs.Kinds.{same_aexpr}
-use Rattle.plan.specs.Lists.{if◌then◌else◌, all?}
+use Rattle.plan.specs.Lists.{all?}
 use Rattle.plan.specs.Sheet.{Expr, expr_at}
 use Rattle.plan.specs.Orders.{single}
 use Rattle.plan.specs.Look.{one_look, before, check_return_cached, is_replaced, replace_by_input, after, look_again, look_along_children, look_ended, look}

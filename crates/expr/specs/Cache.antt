@@ -1,8 +1,7 @@
 -- An entry of the revisit cache in one byte: 0 for none, else 4 and the order set's number.
-use Rattle.std.specs.Prelude.{ℕ, ◌+◌, ◌%◌, List, eqb, get_or}
+use Rattle.std.specs.Prelude.{ℕ, ◌+◌, ◌%◌, List, eqb, get_or, if◌then◌else◌}
 use Rattle.std.proofs.Math.Option.{Option, none, some}
 use Rattle.plan.specs.declared.orders.ObservableOrders.{ObservableOrders}
-use Rattle.plan.specs.Lists.{if◌then◌else◌}
 use Rattle.expr.specs.Eos.{code, orders}
 
 abbrev pub packed : ObservableOrders → ℕ

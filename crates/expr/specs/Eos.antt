@@ -1,7 +1,6 @@
 -- What the looks of a visit own of ExprOrderSimplifier, out of the number that holds it.
-use Rattle.std.specs.Prelude.{ℕ, ◌+◌, ◌/◌, ◌%◌, eqb, leb}
+use Rattle.std.specs.Prelude.{ℕ, ◌+◌, ◌/◌, ◌%◌, eqb, leb, if◌then◌else◌}
 use Rattle.plan.specs.declared.orders.ObservableOrders.{ObservableOrders}
-use Rattle.plan.specs.Lists.{if◌then◌else◌}
 use Rattle.plan.specs.Orders.{∅}
 use Rattle.expr.specs.declared.eos.Eos.{Eos}
 

@@ -1,6 +1,5 @@
 -- A record's children in the order of the looks.
-use Rattle.std.specs.Prelude.{ℕ, ◌+◌, Bool, eqb, get_or}
-use Rattle.plan.specs.Lists.{if◌then◌else◌}
+use Rattle.std.specs.Prelude.{ℕ, ◌+◌, Bool, eqb, get_or, if◌then◌else◌}
 use Rattle.storage.specs.declared.exprs.ExprRecord.{ExprRecord}
 
 -- where the child stands that the i-th look goes to: in their order, or the first child last

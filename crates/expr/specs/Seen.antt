@@ -1,7 +1,6 @@
 -- What is seen of a record's children: their ExprOrderAcc, and the answers of the first three.
-use Rattle.std.specs.Prelude.{◌≡◌, ℕ, List, eqb, get_or}
+use Rattle.std.specs.Prelude.{◌≡◌, ℕ, List, eqb, get_or, if◌then◌else◌}
 use Rattle.plan.specs.declared.orders.ObservableOrders.{ObservableOrders}
-use Rattle.plan.specs.Lists.{if◌then◌else◌}
 use Rattle.plan.specs.Orders.{∅, no_orders, add}
 use Rattle.expr.specs.declared.seen.Seen.{Seen}
 

@@ -1,8 +1,7 @@
 -- The rows of the table after the looks along the children.
-use Rattle.std.specs.Prelude.{◌≡◌, ℕ, Bool, true, ◌&&◌, ◌||◌, not, List, [], ◌∷◌, eqb}
+use Rattle.std.specs.Prelude.{◌≡◌, ℕ, Bool, true, ◌&&◌, ◌||◌, not, List, [], ◌∷◌, eqb, if◌then◌else◌}
 use Rattle.plan.specs.declared.orders.ExprOrderAcc.{ExprOrderAcc}
 use Rattle.plan.specs.declared.orders.ObservableOrders.{ObservableOrders}
-use Rattle.plan.specs.Lists.{if◌then◌else◌}
 use Rattle.plan.specs.FunctionFlags.{observes_input_order, terminates_input_order, non_order_producing}
 use Rattle.plan.specs.Kinds.{aexpr}
 use Rattle.plan.specs.Sheet.{Expr}

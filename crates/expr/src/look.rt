@@ -1,7 +1,7 @@
 // A look at a record, and along its children: `rec` of expr.rs.
-ghost use Rattle.std.specs.Prelude.{◌≡◌, ◌&&◌, ℕ, List, drop, eqb};
+ghost use Rattle.std.specs.Prelude.{◌≡◌, ◌&&◌, ℕ, List, drop, eqb, if◌then◌else◌};
 ghost use Rattle.plan.specs.Kinds.{same_aexpr};
-ghost use Rattle.plan.specs.Lists.{if◌then◌else◌, yes?, all?};
+ghost use Rattle.plan.specs.Lists.{yes?, all?};
 ghost use Rattle.plan.specs.Orders.{is_empty};
 ghost use Rattle.plan.specs.Look.{NO_DEORDER};
 ghost use Rattle.plan.specs.declared.aexpr.AExpr.{AExpr};

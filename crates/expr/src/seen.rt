@@ -1,6 +1,5 @@
 // What is seen of a record's children: their ExprOrderAcc, and the answers of the first three.
-ghost use Rattle.std.specs.Prelude.{◌≡◌, ◌<◌};
-ghost use Rattle.plan.specs.Lists.{if◌then◌else◌};
+ghost use Rattle.std.specs.Prelude.{◌≡◌, ◌<◌, if◌then◌else◌};
 ghost use Rattle.expr.specs.Seen.{none_seen, Adds};
 
 use plan::orders::{ExprOrderAcc, ObservableOrders};

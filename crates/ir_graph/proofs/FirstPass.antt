@@ -1,4 +1,5 @@
 -- The first pass: what the loop of count_hits keeps.
+use Rattle.std.specs.Prelude.{if◌then◌else◌}
 use mathlib.Core.Path.{◌≡◌, refl, sym, ap, ◌∙◌, subst}
 use mathlib.Core.Logic.{inl, inr, ◌≢◌}
 use Prim.Native.Nat.{ℕ, zero, suc, ◌+◌, ◌≤◌, ◌<◌}
@@ -12,7 +13,7 @@ use lib.ListN.{length, get_or, take, set, replicate, length-append, length-rever
 use lib.Seq.{take-suc, get_or-set_same, get_or-set_other, get_or-take}
 use Rattle.plan.specs.declared.ir.IR.{IR}
 use Rattle.plan.specs.Kinds.{same_ir}
-use Rattle.plan.specs.Lists.{if◌then◌else◌, any?, sum, among, times}
+use Rattle.plan.specs.Lists.{any?, sum, among, times}
 use Rattle.plan.specs.Sheet.{Step, step_at}
 use Rattle.plan.specs.Faults.{named}
 use Rattle.plan.specs.Graph.{sinks, is_cache, most_places, key, hits}

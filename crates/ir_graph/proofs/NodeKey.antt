@@ -1,11 +1,11 @@
 -- IRNodeKey: the ways through `new`, and that a step's line can stand for its key.
+use Rattle.std.specs.Prelude.{if◌then◌else◌}
 use mathlib.Core.Path.{◌≡◌}
 use Prim.Native.Nat.{ℕ}
 use mathlib.Core.Bool.{Bool, true, false}
 use lib.Dec.{T}
 use Rattle.plan.specs.declared.ir.IR.{IR}
 use Rattle.plan.specs.Kinds.{same_ir}
-use Rattle.plan.specs.Lists.{if◌then◌else◌}
 use Rattle.plan.specs.Sheet.{Step, Sheet, step_at}
 use Rattle.claims.specs.WellFormed.{WellFormed}
 use Rattle.plan.proofs.KindNumbers.{same_kind}

@@ -1,4 +1,5 @@
 -- Pushing onto a list, and the roots.
+use Rattle.std.specs.Prelude.{if◌then◌else◌}
 use mathlib.Core.Path.{◌≡◌, refl, sym, ap, ◌∙◌}
 use mathlib.Core.List.{List, [], ◌∷◌, ◌++◌, map, append_assoc, append-nil}
 use Prim.Native.Nat.{ℕ, suc, ◌+◌, ◌≤◌, ◌<◌}
@@ -9,7 +10,7 @@ use lib.ListN.{length, take, set, length-append, length-set}
 use lib.Seq.{take-suc-set}
 use Rattle.plan.specs.declared.ir.IR.{IR}
 use Rattle.plan.specs.Kinds.{same_ir}
-use Rattle.plan.specs.Lists.{if◌then◌else◌, select, numbered}
+use Rattle.plan.specs.Lists.{select, numbered}
 use Rattle.plan.specs.Sheet.{Step}
 use Rattle.plan.specs.Graph.{sinks}
 use Rattle.storage.specs.Stored.{table, stored_step, stored_steps}

@@ -1,4 +1,5 @@
 -- The edges into a step are made in a row, where its inputs follow.
+use Rattle.std.specs.Prelude.{if◌then◌else◌}
 use mathlib.Core.Path.{◌≡◌, refl, sym, ap, ◌∙◌, subst}
 use mathlib.Core.Logic.{inl, inr, ◌≢◌}
 use Prim.Native.Nat.{ℕ, suc, ◌+◌, ◌≤◌, ◌<◌}
@@ -9,7 +10,7 @@ use mathlib.Core.List.{List, [], ◌∷◌, ◌++◌, map, append-nil}
 use lib.Dec.{T, eqb, eqb→eq}
 use lib.ListN.{length, get_or, take, drop, set, length-append, length-drop, length-map, length-set}
 use lib.Seq.{take_all, take-append-le, drop-append-le, drop-append_seam, get_or-set_same, get_or-set_other}
-use Rattle.plan.specs.Lists.{if◌then◌else◌, select, sum, numbered, times}
+use Rattle.plan.specs.Lists.{select, sum, numbered, times}
 use Rattle.plan.specs.Sheet.{Step, step_at}
 use Rattle.plan.specs.Faults.{named}
 use Rattle.plan.specs.Graph.{Edge, graph, sinks, is_cache}

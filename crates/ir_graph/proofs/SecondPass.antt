@@ -1,4 +1,5 @@
 -- The second pass: what the loop of build_ir_traversal_graph keeps.
+use Rattle.std.specs.Prelude.{if◌then◌else◌}
 use mathlib.Core.Path.{◌≡◌, refl, sym, ap, ◌∙◌, subst}
 use mathlib.Core.Logic.{inl, inr, ◌≢◌}
 use Prim.Native.Nat.{ℕ, zero, suc, ◌+◌, ◌-◌, ◌≤◌, ◌<◌}
@@ -12,7 +13,7 @@ use lib.ListN.{length, get_or, take, drop, set, length-append, length-reverse, l
 use lib.Seq.{take-suc, take-take, take-append-le, drop-append-le, drop-cons, drop_at, get_or-take, get_or-set_same, get_or-set_other}
 use Rattle.plan.specs.declared.ir.IR.{IR}
 use Rattle.plan.specs.Kinds.{same_ir}
-use Rattle.plan.specs.Lists.{if◌then◌else◌, sum, times}
+use Rattle.plan.specs.Lists.{sum, times}
 use Rattle.plan.specs.Sheet.{Step, step_at}
 use Rattle.plan.specs.Faults.{named}
 use Rattle.plan.specs.Graph.{Edge, sinks, is_cache, most_places}

@@ -1,4 +1,5 @@
 -- What a test selects from a list, where that is a run of its entries.
+use Rattle.std.specs.Prelude.{if◌then◌else◌}
 use mathlib.Core.Path.{◌≡◌, refl}
 use Prim.Native.Nat.{ℕ, ◌+◌, ◌-◌, ◌≤◌, ◌<◌}
 use native.Mathlib.Omega.{arith}
@@ -8,7 +9,7 @@ use mathlib.Core.List.{List, [], ◌∷◌}
 use lib.Dec.{T}
 use lib.ListN.{length, get_or, take, drop, length-take, length-drop, take-append-drop}
 use lib.Seq.{get_or-take, get_or-drop}
-use Rattle.plan.specs.Lists.{if◌then◌else◌, select, all?, sum}
+use Rattle.plan.specs.Lists.{select, all?, sum}
 use Rattle.plan.proofs.ListLaws.{sum_append}
 use Rattle.plan.proofs.Booleans.{and_both, all_at}
 use Rattle.plan.proofs.Counts.{T_of, mem_at, count, counted_in}

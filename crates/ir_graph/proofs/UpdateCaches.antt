@@ -1,4 +1,5 @@
 -- update_cache_nodes: the ways through it, and its loop, which comes to the definition's.
+use Rattle.std.specs.Prelude.{if◌then◌else◌}
 use mathlib.Core.Path.{◌≡◌, refl, sym, ap, ◌∙◌, subst}
 use mathlib.Core.Logic.{◌≢◌}
 use mathlib.Core.List.{List, [], ◌∷◌}
@@ -13,7 +14,6 @@ use lib.ListN.{length, get_or, take, set, length-map, length-set}
 use lib.Seq.{get_or-take, get_or-set_same, get_or-set_other, ext_get_or}
 use Rattle.plan.specs.declared.ir.IR.{IR}
 use Rattle.plan.specs.Kinds.{ir_number, same_ir}
-use Rattle.plan.specs.Lists.{if◌then◌else◌}
 use Rattle.plan.specs.Sheet.{Step, no_step, step_at}
 use Rattle.plan.specs.Graph.{is_cache, key, update_cache_nodes}
 use Rattle.storage.specs.Stored.{stored_steps, StepsHeld}

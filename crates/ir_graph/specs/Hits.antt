@@ -1,6 +1,5 @@
 -- What the first pass hands on: to the second pass, and to update_cache_nodes.
-use Rattle.std.specs.Prelude.{◌≡◌, ℕ, ◌≤◌, ◌<◌, List, length, get_or, take}
-use Rattle.plan.specs.Lists.{if◌then◌else◌}
+use Rattle.std.specs.Prelude.{◌≡◌, ℕ, ◌≤◌, ◌<◌, List, length, get_or, take, if◌then◌else◌}
 use Rattle.plan.specs.Sheet.{Step}
 use Rattle.plan.specs.Graph.{popped, is_cache, key, hits}
 

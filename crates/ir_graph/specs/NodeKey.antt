@@ -1,8 +1,7 @@
 -- IRNodeKey::new of ir_node_key.rs.
-use Rattle.std.specs.Prelude.{ℕ}
+use Rattle.std.specs.Prelude.{ℕ, if◌then◌else◌}
 use Rattle.plan.specs.declared.ir.IR.{IR}
 use Rattle.plan.specs.Kinds.{same_ir}
-use Rattle.plan.specs.Lists.{if◌then◌else◌}
 use Rattle.plan.specs.Sheet.{Step}
 use Rattle.ir_graph.specs.declared.ir_node_key.IRNodeKey.{IRNodeKey}
 

@@ -1,8 +1,7 @@
 -- What one turn of a pass does, said of the stored steps and of the hits that the code counts.
-use Rattle.std.specs.Prelude.{ℕ, ◌+◌, ◌-◌, Bool, ◌&&◌, not, List, [], ◌∷◌, eqb, ltb, get_or, set}
+use Rattle.std.specs.Prelude.{ℕ, ◌+◌, ◌-◌, Bool, ◌&&◌, not, List, [], ◌∷◌, eqb, ltb, get_or, set, if◌then◌else◌}
 use Rattle.plan.specs.declared.ir.IR.{IR}
 use Rattle.plan.specs.Kinds.{same_ir}
-use Rattle.plan.specs.Lists.{if◌then◌else◌}
 use Rattle.storage.specs.Stored.{stored_step}
 
 -- i, if it is a root

@@ -1,6 +1,5 @@
 -- CacheNodeUpdater of ir_graph.rs as the code goes about it: a table of the lines met first, and update_cache_nodes line by line.
-use Rattle.std.specs.Prelude.{◌≡◌, ℕ, ◌≤◌, ◌<◌, List, T, length, get_or, set}
-use Rattle.plan.specs.Lists.{if◌then◌else◌}
+use Rattle.std.specs.Prelude.{◌≡◌, ℕ, ◌≤◌, ◌<◌, List, T, length, get_or, set, if◌then◌else◌}
 use Rattle.plan.specs.Sheet.{Step, step_at}
 use Rattle.plan.specs.Graph.{is_cache, key}
 use Rattle.storage.specs.Stored.{table}

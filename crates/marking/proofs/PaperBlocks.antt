@@ -1,4 +1,5 @@
 -- A paper's two blocks: no P line has the letter G, and every G line begins with it.
+use Rattle.std.specs.Prelude.{if◌then◌else◌}
 use mathlib.Core.Path.{◌≡◌, refl, ap, sym, ◌∙◌, subst}
 use Prim.Native.Nat.{ℕ, zero, suc, ◌+◌, ◌≤◌, ◌<◌, ◌%◌, ◌/◌}
 use native.Mathlib.Omega.{arith}
@@ -9,7 +10,7 @@ use mathlib.Core.List.{List, [], ◌∷◌, ◌++◌, append-nil}
 use lib.Dec.{T, eqb}
 use lib.ListN.{length}
 use borrow.Author.Tests.{ne_eqb}
-use Rattle.plan.specs.Lists.{all?, concat_map, if◌then◌else◌}
+use Rattle.plan.specs.Lists.{all?, concat_map}
 use Rattle.plan.specs.Text.{decimal, line, step_line, edge_line, steps_block, edges_block}
 use Rattle.plan.specs.Visit.{Run}
 use Rattle.plan.proofs.Booleans.{and_both}

@@ -1,7 +1,7 @@
 -- Marking: a candidate's paper against the P and G lines of the finished sheet, and every byte of the output that is lent.
-use Rattle.std.specs.Prelude.{◌≡◌, ℕ, ◌≤◌, Bool, true, false, eqb}
+use Rattle.std.specs.Prelude.{◌≡◌, ℕ, ◌≤◌, Bool, true, false, eqb, if◌then◌else◌}
 use mathlib.Core.List.{List, [], ◌∷◌, ◌++◌, Memᴰ}
-use Rattle.plan.specs.Lists.{same, concat_map, if◌then◌else◌}
+use Rattle.plan.specs.Lists.{same, concat_map}
 use Rattle.plan.specs.Sheet.{Outcome, refused, done, refuse◌when◌else◌}
 use Rattle.plan.specs.Finished.{run, finish, too_short}
 use Rattle.plan.specs.Text.{line, steps_block, edges_block}

@@ -1,11 +1,12 @@
 -- A step's edges as a visit finds them, from those into it and those out of it.
+use Rattle.std.specs.Prelude.{if◌then◌else◌}
 use mathlib.Core.Path.{◌≡◌}
 use Prim.Native.Nat.{ℕ, ◌+◌}
 use native.Mathlib.Omega.{arith}
 use mathlib.Core.Bool.{Bool, false}
 use mathlib.Core.List.{List}
 use lib.Dec.{ltb}
-use Rattle.plan.specs.Lists.{if◌then◌else◌, all?}
+use Rattle.plan.specs.Lists.{all?}
 use Rattle.plan.specs.Visit.{around, outs_unordered}
 use Rattle.claims.specs.Demand3.{leaving_among}
 use Rattle.node_rules.specs.declared.around.InEdges.{InEdges}

@@ -1,4 +1,5 @@
 -- The edges into a step are a run of the edges.
+use Rattle.std.specs.Prelude.{if◌then◌else◌}
 use mathlib.Core.Path.{◌≡◌, refl, sym, ap, ◌∙◌}
 use mathlib.Core.Logic.{◌≢◌, ◌⊎◌, inl, inr}
 use Prim.Native.Nat.{ℕ, zero, suc, ◌+◌, ◌-◌, ◌≤◌, ◌<◌}
@@ -9,7 +10,7 @@ use mathlib.Core.Bool.{Bool, true, false, ◌&&◌}
 use mathlib.Core.List.{List, [], ◌∷◌, map, append-nil}
 use lib.Dec.{eqb, ltb}
 use lib.ListN.{get_or, get_or-eq_default}
-use Rattle.plan.specs.Lists.{if◌then◌else◌, select, all?}
+use Rattle.plan.specs.Lists.{select, all?}
 use Rattle.plan.specs.Graph.{Edge}
 use Rattle.storage.specs.Stored.{table}
 use Rattle.storage.proofs.Laws.{length_table, table_from_at, table_more, table_split}

@@ -1,4 +1,5 @@
 -- The edges out of a step are found by going through all edges.
+use Rattle.std.specs.Prelude.{if◌then◌else◌}
 use mathlib.Core.Path.{◌≡◌, refl, sym, ap, ap₂, ◌∙◌}
 use Prim.Native.Nat.{ℕ, suc, ◌+◌, ◌<◌}
 use native.Mathlib.Omega.{arith}
@@ -10,7 +11,7 @@ use mathlib.Core.List.{List, [], ◌∷◌}
 use lib.Dec.{ltb}
 use lib.ListN.{get_or, drop, get_or-eq_default}
 use lib.Seq.{drop-cons, drop-length}
-use Rattle.plan.specs.Lists.{if◌then◌else◌, all?, select}
+use Rattle.plan.specs.Lists.{all?, select}
 use Rattle.plan.specs.Graph.{Edge}
 use Rattle.storage.specs.Stored.{table}
 use Rattle.storage.proofs.Laws.{length_table, table_at, one_entry_more}

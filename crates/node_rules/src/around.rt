@@ -1,6 +1,6 @@
 // A step's edges as a visit finds them.
-ghost use Rattle.std.specs.Prelude.{◌≡◌, List, false, ℕ, ◌≤◌, ◌<◌, ltb};
-ghost use Rattle.plan.specs.Lists.{if◌then◌else◌, all?};
+ghost use Rattle.std.specs.Prelude.{◌≡◌, List, false, ℕ, ◌≤◌, ◌<◌, ltb, if◌then◌else◌};
+ghost use Rattle.plan.specs.Lists.{all?};
 ghost use Rattle.plan.specs.Visit.{around, outs_unordered};
 ghost use Rattle.claims.specs.Demand3.{leaving_among};
 ghost use Rattle.storage.specs.Edges.{mark, stored_edges, InARow};

@@ -1,6 +1,5 @@
 // The rule of a Join.
-ghost use Rattle.std.specs.Prelude.{◌≡◌};
-ghost use Rattle.plan.specs.Lists.{if◌then◌else◌};
+ghost use Rattle.std.specs.Prelude.{◌≡◌, if◌then◌else◌};
 ghost use Rattle.plan.specs.Visit.{join_rule, without_left, without_right};
 
 use crate::rules::ruled;

@@ -1,6 +1,5 @@
 // The edges that a rule loosens: each is set to Edge::Unordered.
-ghost use Rattle.std.specs.Prelude.{◌≡◌, List, map, ℕ, ◌≤◌, ◌<◌, eqb, length};
-ghost use Rattle.plan.specs.Lists.{if◌then◌else◌};
+ghost use Rattle.std.specs.Prelude.{◌≡◌, List, map, ℕ, ◌≤◌, ◌<◌, eqb, length, if◌then◌else◌};
 ghost use Rattle.plan.specs.Visit.{loosened};
 ghost use Rattle.storage.specs.Edges.{stored_edges};
 ghost use Rattle.node_rules.specs.Held.{Among, InRun, RunFits, ins_of, outs_of};

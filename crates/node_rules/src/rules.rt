@@ -1,6 +1,5 @@
 // What a visit that removes nothing makes of a step and its edges: the match of simplify_ir_node_orders, an arm per kind.
-ghost use Rattle.std.specs.Prelude.{◌≡◌, false};
-ghost use Rattle.plan.specs.Lists.{if◌then◌else◌};
+ghost use Rattle.std.specs.Prelude.{◌≡◌, false, if◌then◌else◌};
 ghost use Rattle.plan.specs.FunctionIR.{rust_functions};
 ghost use Rattle.plan.specs.Visit.{rule, arm, ruled, unmaintained_if, first_or_last, is_hstack, select_in, select_out, sort_in, filter_in, filter_out, group_by_in, group_by_out, gather_idxs, gather_out, union_all, map_in, map_out, cache_in, cache_outs, sink_in, allow_deordering_top, refusal_number};
 

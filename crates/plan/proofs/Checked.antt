@@ -1,11 +1,12 @@
 -- All passes of `checked` as one chain of refusals.
+use Rattle.std.specs.Prelude.{if◌then◌else◌}
 use mathlib.Core.Path.{◌≡◌, refl, ap, ◌∙◌}
 use Prim.Native.Nat.{ℕ, zero, suc}
 use mathlib.Core.Bool.{Bool, true, false, not}
 use mathlib.Core.List.{map}
 use native.Mathlib.Omega.{arith}
 use lib.Dec.{eqb, eqb-suc-zero}
-use Rattle.plan.specs.Lists.{if◌then◌else◌, all?, concat_map, numbered}
+use Rattle.plan.specs.Lists.{all?, concat_map, numbered}
 use Rattle.plan.specs.Sheet.{Sheet, done, refuse◌when◌else◌}
 use Rattle.plan.specs.Faults.{lines, references_right, uses, named_right, use_number, id_right, field_right, use_fault, passes, first_fault, refused_by, checked}
 use Rattle.plan.proofs.FaultLaws.{first_of_two, all_right_is, one_number}

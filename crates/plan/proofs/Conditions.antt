@@ -1,4 +1,5 @@
 -- The numbers of a sheet that is read, and of its walks: each is given exactly under its condition.
+use Rattle.std.specs.Prelude.{if◌then◌else◌}
 use mathlib.Core.Path.{◌≡◌, refl, ap, sym, ◌∙◌, subst}
 use mathlib.Core.Logic.{inl, inr}
 use Prim.Native.Nat.{ℕ}
@@ -10,7 +11,7 @@ use mathlib.Core.List.{List, [], ◌∷◌, ◌++◌, Memᴰ}
 use lib.Dec.{T, eqb}
 use Rattle.plan.specs.declared.ir.IR.{IR}
 use Rattle.plan.specs.Kinds.{same_ir}
-use Rattle.plan.specs.Lists.{if◌then◌else◌, yes?, empty?}
+use Rattle.plan.specs.Lists.{yes?, empty?}
 use Rattle.plan.proofs.ListLaws.{and_left, and_right}
 use Rattle.plan.specs.Sheet.{Sheet, Outcome, refused, done, ◌then◌, refuse◌when◌else◌, Line, E, P, line_of, expr_fits, expr_of, with_expr, step_fits, step_of, with_step, over_limits, no_plan, read_line, read_lines, onto, parts}
 use Rattle.plan.specs.Visit.{Run, Looked, simplify_ir_node_orders, goes, unlink_node, settle, looked_in, looks_of, options_of, join_fails, sink_fails, elementwise, refusal_number}

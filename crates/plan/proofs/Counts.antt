@@ -1,4 +1,5 @@
 -- Sums over lists, and the number of entries that pass a test.
+use Rattle.std.specs.Prelude.{if◌then◌else◌}
 use mathlib.Core.Path.{◌≡◌, refl, ap, ap₂, sym, ◌∙◌, subst}
 use mathlib.Core.Logic.{◌⊎◌, inl, inr, ◌≢◌}
 use Prim.Native.Nat.{ℕ, zero, suc, ◌+◌, ◌≤◌, ◌<◌}
@@ -9,7 +10,7 @@ use mathlib.Core.List.Memᴰ
 use mathlib.Core.List.{List, [], ◌∷◌, map, reverse, reverse-cons, Memᴰ}
 use lib.Dec.{T, eqb, eqb→eq, eqb_refl}
 use lib.ListN.{length, get_or}
-use Rattle.plan.specs.Lists.{if◌then◌else◌, select, sum, concat_map, numbered, times, any?, among}
+use Rattle.plan.specs.Lists.{select, sum, concat_map, numbered, times, any?, among}
 use Rattle.plan.proofs.ListLaws.{sum_append}
 use borrow.Author.Tests.{ne_eqb}
 

@@ -1,4 +1,5 @@
 -- The number that a pass of `checked` comes to, and the test of one line.
+use Rattle.std.specs.Prelude.{if◌then◌else◌}
 use mathlib.Core.Path.{◌≡◌, refl, ap, ap₂, sym, ◌∙◌, subst}
 use mathlib.Core.Logic.{◌≢◌}
 use Prim.Native.Nat.{ℕ, zero, suc, ◌<◌}
@@ -6,7 +7,7 @@ use mathlib.Core.Bool.{Bool, true, false, ◌&&◌, and_assoc}
 use mathlib.Core.List.{List, [], ◌∷◌, ◌++◌, map, map-append, map-map}
 use lib.Dec.{T, eqb, eqb-suc-zero}
 use lib.ListN.{length}
-use Rattle.plan.specs.Lists.{if◌then◌else◌, all?, numbered}
+use Rattle.plan.specs.Lists.{all?, numbered}
 use Rattle.plan.specs.Sheet.{Sheet, no_expr, no_step, expr_at, step_at}
 use Rattle.plan.specs.Faults.{Indexed, lines, first_fault}
 use Rattle.plan.proofs.ListLaws.{and_left, and_right}

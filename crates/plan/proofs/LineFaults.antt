@@ -1,4 +1,5 @@
 -- The tests behind 7, 8 and 12, 13 and 9 against their conditions: a line that fails its test is wrong, and one that passes it is not.
+use Rattle.std.specs.Prelude.{if◌then◌else◌}
 use mathlib.Core.Path.{◌≡◌, refl, ap, sym, ◌∙◌, subst}
 use mathlib.Core.Logic.{◌⊎◌, inl, inr, ◌≢◌}
 use Prim.Native.Nat.{ℕ, zero, suc, ◌+◌, ◌≤◌, ◌<◌}
@@ -12,7 +13,7 @@ use lib.ListN.{length, get_or, get_or-eq_default}
 use Rattle.plan.specs.declared.aexpr.AExpr.{AExpr}
 use Rattle.plan.specs.declared.ir.IR.{IR}
 use Rattle.plan.specs.Kinds.{same_aexpr, same_ir, ir_number, aexpr_number}
-use Rattle.plan.specs.Lists.{if◌then◌else◌, all?, sum, select, concat_map, numbered, among, times, rest}
+use Rattle.plan.specs.Lists.{all?, sum, select, concat_map, numbered, among, times, rest}
 use Rattle.plan.specs.Sheet.{Expr, Step, Sheet, no_expr, no_step, expr_at, step_at}
 use Rattle.plan.specs.Faults.{Indexed, children_earlier, inputs_earlier, exprs_there, references_right, exprs_named, named, uses, named_right, use_number, cache_ids, id_right, tree, evaluated, field_right}
 use Rattle.plan.specs.Conditions.{RefersWrong, Unnamed, NamedOften, NamedWrong, SharesId, Evaluated, FieldOutside}

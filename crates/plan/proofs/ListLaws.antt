@@ -1,4 +1,5 @@
 -- Laws of tests and of lists that several crates cite.
+use Rattle.std.specs.Prelude.{if◌then◌else◌}
 use mathlib.Core.Path.{◌≡◌, refl, sym, ap, ap₂, ◌∙◌, subst}
 use mathlib.Core.Logic.{inl, inr}
 use Prim.Native.Nat.{ℕ, zero, suc, ◌+◌, ◌-◌}
@@ -10,7 +11,7 @@ use mathlib.Core.List.{List, [], ◌∷◌, ◌++◌, Memᴰ}
 use lib.Dec.{T, eqb, eqb→eq}
 use lib.ListN.{length, take, drop, length-drop}
 use lib.Seq.{take-nil, take_all}
-use Rattle.plan.specs.Lists.{if◌then◌else◌, all?, select, sum, same}
+use Rattle.plan.specs.Lists.{all?, select, sum, same}
 
 -- What a passed test says --------------------------------------------------------------------------------------------------------
 

@@ -1,10 +1,10 @@
 -- Outcomes that came to a value.
+use Rattle.std.specs.Prelude.{if◌then◌else◌}
 use mathlib.Core.Path.{◌≡◌, refl}
 use Prim.Native.Nat.{ℕ}
 use native.Mathlib.Omega.{arith}
 use mathlib.Core.Bool.{Bool, true, false, not}
 use lib.Dec.{T}
-use Rattle.plan.specs.Lists.{if◌then◌else◌}
 use Rattle.plan.specs.Sheet.{Outcome, refused, done, ◌then◌, refuse◌when◌else◌}
 
 pub same_value : {A : Type 0} {x y : A} → done x ≡ done y → x ≡ y

@@ -1,11 +1,12 @@
 -- A pass of `checked` against the condition of its numbers: the first line that is wrong gives its own.
+use Rattle.std.specs.Prelude.{if◌then◌else◌}
 use mathlib.Core.Path.{◌≡◌, ap, sym, ◌∙◌}
 use mathlib.Core.Logic.{◌⊎◌, inl, inr, ◌≢◌}
 use Prim.Native.Nat.{ℕ}
 use mathlib.Core.Bool.{Bool, true, false, not}
 use mathlib.Core.List.{List, ◌∷◌, ◌++◌, map, map-append, append_assoc}
 use lib.Dec.{T}
-use Rattle.plan.specs.Lists.{if◌then◌else◌, all?}
+use Rattle.plan.specs.Lists.{all?}
 use Rattle.plan.specs.Faults.{first_fault}
 use Rattle.plan.specs.Conditions.{None, First}
 use Rattle.plan.proofs.Counts.{true_of}

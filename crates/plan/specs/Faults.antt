@@ -1,9 +1,9 @@
 -- References, uses, ids and struct fields of a sheet that has been read. Refusals 7, 8 and 12, 13, 9, in this order.
-use Rattle.std.specs.Prelude.{ℕ, zero, suc, Bool, ◌&&◌, ◌||◌, not, List, [], ◌∷◌, ◌++◌, map, eqb, ltb, leb, length}
+use Rattle.std.specs.Prelude.{ℕ, zero, suc, Bool, ◌&&◌, ◌||◌, not, List, [], ◌∷◌, ◌++◌, map, eqb, ltb, leb, length, if◌then◌else◌}
 use Rattle.plan.specs.declared.aexpr.AExpr.{AExpr}
 use Rattle.plan.specs.declared.ir.IR.{IR}
 use Rattle.plan.specs.Kinds.{same_aexpr, same_ir}
-use Rattle.plan.specs.Lists.{if◌then◌else◌, all?, select, concat_map, numbered, among, times, rest}
+use Rattle.plan.specs.Lists.{all?, select, concat_map, numbered, among, times, rest}
 use Rattle.plan.specs.Sheet.{Expr, Step, Sheet, Outcome, refused, done, expr_at, step_at}
 
 -- a line that has been read, with its index

@@ -3,11 +3,11 @@
 -- The Rust tells steps apart by IRNodeKey (ir_node_key.rs): a Cache by its id, any other step by its node. Here the key of a step
 -- is a line: of the Cache lines with one id the one that the first pass meets first (`tracker.nodes[0]`), of any other step its
 -- own. Refusal 13 leaves each id one line, so on an accepted sheet every step is its own key.
-use Rattle.std.specs.Prelude.{ℕ, zero, suc, ◌+◌, Bool, false, ◌&&◌, ◌||◌, not, List, [], ◌∷◌, ◌++◌, map, reverse, eqb, length}
+use Rattle.std.specs.Prelude.{ℕ, zero, suc, ◌+◌, Bool, false, ◌&&◌, ◌||◌, not, List, [], ◌∷◌, ◌++◌, map, reverse, eqb, length, if◌then◌else◌}
 use Rattle.std.proofs.Math.Option.{Option, some}
 use Rattle.plan.specs.declared.ir.IR.{IR}
 use Rattle.plan.specs.Kinds.{same_ir}
-use Rattle.plan.specs.Lists.{if◌then◌else◌, any?, select, numbered, times}
+use Rattle.plan.specs.Lists.{any?, select, numbered, times}
 use Rattle.plan.specs.Sheet.{Step, step_at}
 use Rattle.plan.specs.Faults.{named}
 

@@ -1,11 +1,7 @@
 -- Choices, and functions on lists, that the definition is written with.
-use Rattle.std.specs.Prelude.{ℕ, suc, ◌+◌, Bool, true, false, ◌&&◌, ◌||◌, List, [], ◌∷◌, ◌++◌, eqb}
+use Rattle.std.specs.Prelude.{ℕ, suc, ◌+◌, Bool, true, false, ◌&&◌, ◌||◌, List, [], ◌∷◌, ◌++◌, eqb, if◌then◌else◌}
 
-infix 5 if◌then◌else◌
--- both branches are handed over. `parts`, `value` and `digits` say `elim` instead, by which only the branch taken is computed
-abbrev pub if◌then◌else◌ {ℓ} : {A : Type ℓ} → Bool → A → A → A
-if◌then◌else◌ true a b = a
-if◌then◌else◌ false a b = b
+-- `if` hands both branches over. `parts`, `value` and `digits` say `elim` instead, by which only the branch taken is computed
 
 -- a yes-or-no number of a sheet
 abbrev pub yes? : ℕ → Bool

@@ -1,5 +1,5 @@
 -- ExprOrderSimplifier of expr.rs: a look (document 01's term for one call of `rec`), and a list of projected expressions.
-use Rattle.std.specs.Prelude.{ℕ, zero, suc, Bool, true, false, ◌&&◌, ◌||◌, not, List, [], ◌∷◌, ◌++◌, eqb, get_or, set, length, take, drop}
+use Rattle.std.specs.Prelude.{ℕ, zero, suc, Bool, true, false, ◌&&◌, ◌||◌, not, List, [], ◌∷◌, ◌++◌, eqb, get_or, set, length, take, drop, if◌then◌else◌}
 use Rattle.std.proofs.Math.Option.{Option, none, some}
 use Rattle.plan.specs.declared.tally.Tally.{Tally}
 use Rattle.plan.specs.Tally.{look_more}
@@ -9,7 +9,7 @@ use Rattle.plan.specs.declared.orders.ExprOrderAcc.{ExprOrderAcc}
 use Rattle.plan.specs.declared.orders.ObservableOrders.{ObservableOrders}
 use Rattle.plan.specs.Kinds.{same_aexpr}
 use Rattle.plan.specs.FunctionFlags.{observes_input_order, terminates_input_order, non_order_producing}
-use Rattle.plan.specs.Lists.{if◌then◌else◌, yes?, all?, first_last}
+use Rattle.plan.specs.Lists.{yes?, all?, first_last}
 use Rattle.plan.specs.Sheet.{Expr, expr_at}
 use Rattle.plan.specs.Orders.{∅, COLUMN, INDEPENDENT, ◌∪◌, is_empty, no_orders, add, single}
 

@@ -1,8 +1,7 @@
 -- ObservableOrders and ExprOrderAcc of expr.rs: the code's own types (plan/src/orders.rt).
-use Rattle.std.specs.Prelude.{ℕ, ◌+◌, Bool, true, false, ◌&&◌, ◌||◌, not, eqb}
+use Rattle.std.specs.Prelude.{ℕ, ◌+◌, Bool, true, false, ◌&&◌, ◌||◌, not, eqb, if◌then◌else◌}
 use Rattle.plan.specs.declared.orders.ObservableOrders.{ObservableOrders}
 use Rattle.plan.specs.declared.orders.ExprOrderAcc.{ExprOrderAcc}
-use Rattle.plan.specs.Lists.{if◌then◌else◌}
 
 -- a set of COLUMN and INDEPENDENT
 abbrev pub ∅ : ObservableOrders

@@ -1,10 +1,10 @@
 -- The sheet (document 01's term for the bytes of a plan): its records, and reading them. Refusals 2 to 6.
-use Rattle.std.specs.Prelude.{ℕ, ◌+◌, ◌-◌, ◌*◌, Bool, true, false, ◌&&◌, ◌||◌, not, List, [], ◌∷◌, ◌++◌, eqb, ltb, leb, get_or, length, take, drop}
+use Rattle.std.specs.Prelude.{ℕ, ◌+◌, ◌-◌, ◌*◌, Bool, true, false, ◌&&◌, ◌||◌, not, List, [], ◌∷◌, ◌++◌, eqb, ltb, leb, get_or, length, take, drop, if◌then◌else◌}
 use Rattle.std.proofs.Math.Option.{Option, none, some}
 use Rattle.plan.specs.declared.aexpr.AExpr.{AExpr}
 use Rattle.plan.specs.declared.ir.IR.{IR}
 use Rattle.plan.specs.Kinds.{aexprs, aexpr, aexpr_number, same_aexpr, irs, ir, ir_number, same_ir}
-use Rattle.plan.specs.Lists.{if◌then◌else◌, sum, empty?, same, yes?}
+use Rattle.plan.specs.Lists.{sum, empty?, same, yes?}
 
 -- The records ------------------------------------------------------------------------------------------------------------
 

@@ -1,5 +1,5 @@
 -- SimplifyIRNodeOrder of mod.rs: a visit (document 01's term for one call of simplify_ir_node_orders).
-use Rattle.std.specs.Prelude.{ℕ, Bool, true, false, ◌&&◌, ◌||◌, not, List, [], ◌∷◌, ◌++◌, map, eqb, get_or, set, length}
+use Rattle.std.specs.Prelude.{ℕ, Bool, true, false, ◌&&◌, ◌||◌, not, List, [], ◌∷◌, ◌++◌, map, eqb, get_or, set, length, if◌then◌else◌}
 use Rattle.std.proofs.Math.Option.{Option, none, some}
 use Rattle.plan.specs.declared.tally.Tally.{Tally}
 use Rattle.plan.specs.Tally.{visit_more}
@@ -16,7 +16,7 @@ use Rattle.plan.specs.declared.rules.Ruled.{Ruled}
 use Rattle.plan.specs.Kinds.{same_ir, keep_strategy, keep_strategy_number, join_type, same_join_type, maintain_order, maintain_order_number, same_maintain_order}
 use Rattle.plan.specs.FunctionFlags.{contains}
 use Rattle.plan.specs.FunctionIR.{FunctionOrder, Functions, rust_functions}
-use Rattle.plan.specs.Lists.{if◌then◌else◌, yes?, all?, select}
+use Rattle.plan.specs.Lists.{yes?, all?, select}
 use Rattle.plan.specs.Sheet.{Expr, Step, Outcome, refused, done, expr_at, step_at}
 use Rattle.plan.specs.Graph.{Edge}
 use Rattle.plan.specs.Orders.{∅, ◌∪◌}

@@ -1,6 +1,5 @@
 // A choice between two bytes.
-ghost use Rattle.std.specs.Prelude.{◌≡◌};
-ghost use Rattle.plan.specs.Lists.{if◌then◌else◌};
+ghost use Rattle.std.specs.Prelude.{◌≡◌, if◌then◌else◌};
 
 pub fn pick_byte(b: bool, x: u8, y: u8) -> u8
     ensures { result ≡ (if b then x else y) }

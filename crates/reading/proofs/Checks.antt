@@ -1,4 +1,5 @@
 -- What a line that was read comes to.
+use Rattle.std.specs.Prelude.{if◌then◌else◌}
 use mathlib.Core.Path.{◌≡◌, refl, sym, ap, ◌∙◌, subst}
 use mathlib.Core.Bool.{Bool, true, false, ◌&&◌, ◌||◌, not}
 use mathlib.Core.List.{List, [], ◌∷◌, ◌++◌}
@@ -13,7 +14,7 @@ use borrow.Author.Tests.{ltb-true, leb-true, eqb-true, lt-ltb, le-ltb, le-leb, l
 use Rattle.plan.specs.declared.ir.IR.{IR}
 use Rattle.plan.specs.Kinds.{aexpr_number, ir_number, same_ir}
 use Rattle.plan.proofs.KindNumbers.{aexpr_there, ir_there}
-use Rattle.plan.specs.Lists.{if◌then◌else◌, sum, empty?, same, yes?}
+use Rattle.plan.specs.Lists.{sum, empty?, same, yes?}
 use Rattle.plan.specs.Sheet.{Expr, Step, Sheet, E, P, refused, done, refuse◌when◌else◌, lettered, expr_of, step_of, expr_fits, step_fits, in_expr_table, in_step_table, expr_count, over_limits, with_expr, with_step, read_line}
 use Rattle.storage.specs.Stored.{stored_exprs, stored_steps, table}
 use Rattle.storage.proofs.Laws.{length_exprs, length_steps}

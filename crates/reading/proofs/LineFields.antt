@@ -1,4 +1,5 @@
 -- Laws of a line's fields.
+use Rattle.std.specs.Prelude.{if◌then◌else◌}
 use mathlib.Core.Path.{◌≡◌, refl, sym, ap, ◌∙◌}
 use mathlib.Core.Bool.{Bool, true, false, ◌||◌}
 use mathlib.Core.List.{List, [], ◌∷◌, ◌++◌, append_assoc, append-nil}
@@ -11,7 +12,6 @@ use lib.Seq.{get_or-set_same, get_or-set_other, get_or-append_seam}
 use native.Mathlib.Decide.{ℕ_discrete}
 use native.Mathlib.Nat.{le_refl, not-suc-le-zero}
 use borrow.Author.Tests.{ltb-true, ltb-false, eq-eqb, ne_eqb, eqb-true}
-use Rattle.plan.specs.Lists.{if◌then◌else◌}
 use Rattle.plan.specs.Sheet.{parts, onto, numbers, number, cons?}
 use Rattle.plan.proofs.ListLaws.{part_from}
 use Rattle.reading.specs.Number.{separator?, field, number_at, found, width}

@@ -1,4 +1,5 @@
 -- Membership, and what lies under an evaluation child.
+use Rattle.std.specs.Prelude.{if◌then◌else◌}
 use mathlib.Core.Path.{◌≡◌, refl, sym, ap, ◌∙◌, subst}
 use mathlib.Core.Logic.{◌⊎◌, inl, inr}
 use mathlib.Core.Bool.{Bool, true, false, ◌||◌, not}
@@ -11,7 +12,7 @@ use lib.ListN.{length, get_or, get_or-eq_default}
 use borrow.Author.Tests.{ltb-true, leb-true, leb-false, eq-eqb, ne_eqb}
 use Rattle.plan.specs.declared.aexpr.AExpr.{AExpr}
 use Rattle.plan.specs.Kinds.{same_aexpr}
-use Rattle.plan.specs.Lists.{if◌then◌else◌, all?, any?, sum, concat_map, numbered, among, times, rest, empty?}
+use Rattle.plan.specs.Lists.{all?, any?, sum, concat_map, numbered, among, times, rest, empty?}
 use Rattle.plan.specs.Sheet.{Expr, expr_at, no_expr}
 use Rattle.plan.specs.Faults.{children_earlier, reach, tree, evaluated}
 use Rattle.plan.proofs.Booleans.{and_left, and_right}

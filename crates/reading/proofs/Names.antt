@@ -1,4 +1,5 @@
 -- Namings and their counts.
+use Rattle.std.specs.Prelude.{if◌then◌else◌}
 use mathlib.Core.Path.{◌≡◌, refl, sym, ap, ◌∙◌}
 use mathlib.Core.Bool.{Bool, true, false, ◌||◌, not}
 use mathlib.Core.List.{List, [], ◌∷◌, ◌++◌, map, append_assoc, append-nil}
@@ -12,7 +13,7 @@ use lib.Seq.{get_or-set_same, get_or-set_other, take-suc, get_or-drop}
 use borrow.Author.Tests.{le-leb, lt-leb, eq-eqb, ne_eqb}
 use Rattle.plan.specs.declared.ir.IR.{IR}
 use Rattle.plan.specs.Kinds.{same_ir}
-use Rattle.plan.specs.Lists.{if◌then◌else◌, all?, select, sum, concat_map, numbered, times}
+use Rattle.plan.specs.Lists.{all?, select, sum, concat_map, numbered, times}
 use Rattle.plan.specs.Sheet.{Expr, Step}
 use Rattle.plan.specs.Faults.{exprs_named, named, cache_ids, named_right, use_number, id_right, use_fault, first_fault}
 use Rattle.plan.proofs.FaultLaws.{over_both}

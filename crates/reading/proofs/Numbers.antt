@@ -1,4 +1,5 @@
 -- The number that the first four bytes tell is that of the first field.
+use Rattle.std.specs.Prelude.{if◌then◌else◌}
 use mathlib.Core.Path.{◌≡◌, refl, sym, ap, ◌∙◌}
 use mathlib.Core.Bool.{Bool, true, false, ◌&&◌}
 use mathlib.Core.List.{List, [], ◌∷◌}
@@ -9,7 +10,6 @@ use native.Mathlib.Decide.{dec_le, ℕ_discrete}
 use lib.Dec.{eqb, ltb, leb}
 use lib.ListN.{length, get_or, drop}
 use borrow.Author.Tests.{lt-ltb, le-ltb, le-leb, lt-leb, eq-eqb, ne_eqb}
-use Rattle.plan.specs.Lists.{if◌then◌else◌}
 use Rattle.plan.specs.Sheet.{value, number, at_most}
 use Rattle.reading.specs.Number.{separator?, field, found, number_at, digit_of, digit_at}
 use Rattle.reading.specs.declared.number.Number.{Number}

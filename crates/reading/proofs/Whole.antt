@@ -1,4 +1,5 @@
 -- From one line at the front of the bytes to all lines.
+use Rattle.std.specs.Prelude.{if◌then◌else◌}
 use mathlib.Core.Path.{◌≡◌, refl, sym, ap, ◌∙◌, subst}
 use mathlib.Core.Bool.{Bool, true, false, and-false}
 use mathlib.Core.List.{List, [], ◌∷◌}
@@ -9,7 +10,7 @@ use native.Mathlib.Nat.{not-suc-le-zero}
 use lib.Dec.{eqb}
 use lib.ListN.{length, get_or, take, drop}
 use borrow.Author.Tests.{ne_eqb}
-use Rattle.plan.specs.Lists.{if◌then◌else◌, empty?, same, sum}
+use Rattle.plan.specs.Lists.{empty?, same, sum}
 use Rattle.plan.specs.Sheet.{Sheet, Line, refused, done, ◌then◌, parts, onto, numbers, lettered, line_of, read_line, read_lines, no_lines}
 use Rattle.storage.specs.Stored.{stored_exprs, stored_steps, table}
 use Rattle.plan.proofs.ListLaws.{part_from}

@@ -1,7 +1,6 @@
 -- A line as the code meets it: at the front of the bytes that are left.
-use Rattle.std.specs.Prelude.{◌≡◌, ℕ, suc, ◌+◌, ◌<◌, Bool, true, false, List, [], ◌∷◌, eqb, ltb, get_or, length, set}
+use Rattle.std.specs.Prelude.{◌≡◌, ℕ, suc, ◌+◌, ◌<◌, Bool, true, false, List, [], ◌∷◌, eqb, ltb, get_or, length, set, if◌then◌else◌}
 use Rattle.std.proofs.Math.Option.{Option, none, some}
-use Rattle.plan.specs.Lists.{if◌then◌else◌}
 use Rattle.plan.specs.Sheet.{parts, numbers, Line, line_of}
 use Rattle.reading.specs.Number.{number_at}
 use Rattle.reading.specs.declared.number.Number.{Number}

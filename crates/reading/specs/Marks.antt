@@ -1,8 +1,8 @@
 -- The marks that the code gives E lines, from the last line to the first.
-use Rattle.std.specs.Prelude.{ℕ, zero, suc, ◌-◌, Bool, ◌||◌, not, List, [], ◌++◌, leb}
+use Rattle.std.specs.Prelude.{ℕ, zero, suc, ◌-◌, Bool, ◌||◌, not, List, [], ◌++◌, leb, if◌then◌else◌}
 use Rattle.plan.specs.declared.aexpr.AExpr.{AExpr}
 use Rattle.plan.specs.Kinds.{same_aexpr}
-use Rattle.plan.specs.Lists.{if◌then◌else◌, times, rest}
+use Rattle.plan.specs.Lists.{times, rest}
 use Rattle.plan.specs.Sheet.{Expr}
 use Rattle.storage.specs.Stored.{stored_expr}
 

@@ -1,8 +1,8 @@
 -- Namings, counted up to 2.
-use Rattle.std.specs.Prelude.{◌≡◌, ℕ, zero, suc, ◌<◌, Bool, ◌&&◌, ◌||◌, not, List, [], ◌∷◌, ◌++◌, map, eqb, leb, get_or, length}
+use Rattle.std.specs.Prelude.{◌≡◌, ℕ, zero, suc, ◌<◌, Bool, ◌&&◌, ◌||◌, not, List, [], ◌∷◌, ◌++◌, map, eqb, leb, get_or, length, if◌then◌else◌}
 use Rattle.plan.specs.declared.ir.IR.{IR}
 use Rattle.plan.specs.Kinds.{same_ir}
-use Rattle.plan.specs.Lists.{if◌then◌else◌, all?, concat_map, numbered, times}
+use Rattle.plan.specs.Lists.{all?, concat_map, numbered, times}
 use Rattle.plan.specs.Sheet.{Expr, Step, Sheet}
 use Rattle.plan.specs.Faults.{lines, exprs_named, named, use_right, use_number, id_right, use_fault, first_fault}
 

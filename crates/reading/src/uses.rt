@@ -1,6 +1,6 @@
 // How often the lines are named (refusals 8 and 12), and the ids of Cache lines (13). Counts go to 2, which stands for more as well.
-ghost use Rattle.std.specs.Prelude.{◌≡◌, ◌||◌, not, List, [], ◌∷◌, ◌++◌, map, ℕ, ◌+◌, ◌*◌, ◌≤◌, ◌<◌, eqb, length, take, drop};
-ghost use Rattle.plan.specs.Lists.{if◌then◌else◌, all?, numbered, times};
+ghost use Rattle.std.specs.Prelude.{◌≡◌, ◌||◌, not, List, [], ◌∷◌, ◌++◌, map, ℕ, ◌+◌, ◌*◌, ◌≤◌, ◌<◌, eqb, length, take, drop, if◌then◌else◌};
+ghost use Rattle.plan.specs.Lists.{all?, numbered, times};
 ghost use Rattle.plan.specs.Faults.{cache_ids, named, use_number, first_fault};
 ghost use Rattle.storage.specs.Stored.{stored_exprs, stored_steps, StepsHeld};
 ghost use Rattle.reading.specs.Held.{ExprsHeld, sheet};

@@ -1,4 +1,5 @@
 -- The Implodes of a step, one after the other: what holds when the first k entries of its n3 list are done.
+use Rattle.std.specs.Prelude.{if◌then◌else◌}
 use mathlib.Core.Path.{◌≡◌, refl, sym, ap, ◌∙◌, subst}
 use Prim.Native.Nat.{ℕ, suc, ◌+◌, ◌≤◌, ◌<◌}
 use native.Mathlib.Omega.{arith}
@@ -8,7 +9,6 @@ use lib.ListN.{length, get_or, set, drop, length-append, length-drop, drop_of_le
 use lib.Seq.{drop-cons, get_or-set_same, set-get_or, set-set, set_at, get_or_at}
 use Rattle.plan.specs.declared.ir.IR.{IR}
 use Rattle.plan.specs.Kinds.{same_ir}
-use Rattle.plan.specs.Lists.{if◌then◌else◌}
 use Rattle.plan.specs.Sheet.{Expr, Step, no_step, expr_at, step_at}
 use Rattle.plan.specs.Visit.{implode, imploded, with_implodes, implode_over, with_aggs}
 use Rattle.storage.specs.Steps.{with_agg}

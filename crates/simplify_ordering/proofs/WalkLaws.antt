@@ -1,4 +1,5 @@
 -- The walks, place by place: what holds when some places are visited.
+use Rattle.std.specs.Prelude.{if◌then◌else◌}
 use mathlib.Core.Path.{◌≡◌, refl, sym, ap, ◌∙◌, subst}
 use mathlib.Core.Logic.{◌≢◌}
 use Prim.Native.Nat.{ℕ, suc, ◌+◌, ◌-◌, ◌≤◌, ◌<◌}
@@ -8,7 +9,6 @@ use mathlib.Core.List.{List, [], ◌∷◌, ◌++◌, Memᴰ}
 use lib.Dec.{eqb}
 use lib.ListN.{length, get_or, set, drop, length-set, drop_of_length-le}
 use lib.Seq.{drop-cons, get_or-set_same, drop-set-lt}
-use Rattle.plan.specs.Lists.{if◌then◌else◌}
 use Rattle.plan.specs.Sheet.{Outcome, refused, done, ◌then◌}
 use Rattle.plan.specs.Visit.{Run, goes, settle, unlink_node, looked_in, simplify_ir_node_orders}
 use Rattle.plan.proofs.Settling.{refusal_in}

@@ -1,4 +1,5 @@
 -- What a store into the edges' arrays changes: one field of one edge, or an edge more, or the number of a first in-edge.
+use Rattle.std.specs.Prelude.{if◌then◌else◌}
 use mathlib.Core.Path.{◌≡◌, refl, ap, ◌∙◌}
 use mathlib.Core.Logic.{◌≢◌}
 use Prim.Native.Nat.{ℕ, ◌+◌, ◌≤◌, ◌<◌}
@@ -10,7 +11,7 @@ use mathlib.Core.Option.{none, some}
 use lib.Dec.{T, eqb, eqb→eq}
 use lib.ListN.{length, get_or, drop, set, length-set}
 use lib.Seq.{get_or-set_same, get_or-set_other, drop-set-lt}
-use Rattle.plan.specs.Lists.{if◌then◌else◌, yes?}
+use Rattle.plan.specs.Lists.{yes?}
 use Rattle.plan.specs.Graph.{Edge}
 use Rattle.plan.specs.Visit.{is_out_of}
 use Rattle.storage.specs.Edges.{producer_of, stored_edge, stored_edges, made, with_mark, with_producer, loosened_if, produced_if, EdgeChanged}

@@ -1,4 +1,5 @@
 -- What the bytes of an expression are as the definition has it.
+use Rattle.std.specs.Prelude.{if◌then◌else◌}
 use mathlib.Core.Path.{◌≡◌, refl, sym, ap, ◌∙◌}
 use Prim.Native.Nat.{ℕ, suc, ◌+◌, ◌*◌, ◌≤◌, ◌<◌}
 use native.Mathlib.Omega.{arith}
@@ -9,7 +10,6 @@ use lib.ListN.{length, get_or, take, drop}
 use lib.Seq.{drop-cons, take-append-le, get_or-take, get_or-drop}
 use Rattle.plan.specs.declared.aexpr.AExpr.{AExpr}
 use Rattle.plan.specs.Kinds.{aexpr}
-use Rattle.plan.specs.Lists.{if◌then◌else◌}
 use Rattle.plan.specs.Sheet.{expr_of}
 use Rattle.storage.specs.Stored.{stored_expr, ExprFormed}
 use Rattle.storage.specs.Exprs.{held, IsHeld}

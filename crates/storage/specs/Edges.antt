@@ -1,9 +1,9 @@
 -- How the code stores the edges, in two arrays. `ends` has what never changes: of edge k the step that consumes it at k and its slot at
 -- 256 + k, and of step m the number of its first in-edge at 512 + m. `edges` has, of edge k, the step that produces it at k and its
 -- mark at 256 + k, which is 1 if it is unordered.
-use Rattle.std.specs.Prelude.{ℕ, ◌+◌, ◌≤◌, ◌<◌, ◌≡◌, ◌≢◌, Bool, false, ◌||◌, List, eqb, get_or}
+use Rattle.std.specs.Prelude.{ℕ, ◌+◌, ◌≤◌, ◌<◌, ◌≡◌, ◌≢◌, Bool, false, ◌||◌, List, eqb, get_or, if◌then◌else◌}
 use Rattle.std.proofs.Math.Option.{Option, none, some}
-use Rattle.plan.specs.Lists.{if◌then◌else◌, yes?}
+use Rattle.plan.specs.Lists.{yes?}
 use Rattle.plan.specs.Graph.{Edge}
 use Rattle.storage.specs.Stored.{table}
 

@@ -1,6 +1,5 @@
 -- What is read of a stored expression, the record of the definition that an ExprRecord is, and what is changed.
-use Rattle.std.specs.Prelude.{◌≡◌, ◌≢◌, ℕ, ◌+◌, ◌*◌, ◌≤◌, ◌<◌, Bool, List, length, get_or, take}
-use Rattle.plan.specs.Lists.{if◌then◌else◌}
+use Rattle.std.specs.Prelude.{◌≡◌, ◌≢◌, ℕ, ◌+◌, ◌*◌, ◌≤◌, ◌<◌, Bool, List, length, get_or, take, if◌then◌else◌}
 use Rattle.plan.specs.Sheet.{Expr}
 use Rattle.plan.specs.Look.{switched_off}
 use Rattle.storage.specs.Stored.{stored_expr, ExprFormed}

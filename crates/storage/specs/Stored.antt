@@ -1,6 +1,5 @@
 -- How the code stores a sheet: the numbers of each line as they stand on it, at a fixed stride in lent bytes.
-use Rattle.std.specs.Prelude.{ℕ, zero, suc, ◌+◌, ◌*◌, ◌≤◌, ◌<◌, ◌≡◌, Bool, false, List, [], ◌∷◌, length, get_or, take, drop}
-use Rattle.plan.specs.Lists.{if◌then◌else◌}
+use Rattle.std.specs.Prelude.{ℕ, zero, suc, ◌+◌, ◌*◌, ◌≤◌, ◌<◌, ◌≡◌, Bool, false, List, [], ◌∷◌, length, get_or, take, drop, if◌then◌else◌}
 use Rattle.plan.specs.Sheet.{Expr, Step, expr_of, step_of}
 use Rattle.plan.specs.Look.{switched_off}
 

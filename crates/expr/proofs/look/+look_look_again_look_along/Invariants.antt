@@ -1,7 +1,7 @@
 -- The number of the base record falls to a child, and where a child's record takes the place of its parent's; along the children,
 -- those left fall.
+use Rattle.std.specs.Prelude.{if◌then◌else◌}
 use Rattle.std.proofs.Common.{◌+◌, ◌-◌, ◌*◌, get_or}
-use Rattle.plan.specs.Lists.{if◌then◌else◌}
 use Rattle.expr.specs.State.{state}
 use Rattle.expr.specs.Contract.{reach, Reached}
 use Rattle.expr.proofs.look.+look_look_again_look_along.Given as goal

@@ -1,8 +1,8 @@
+use Rattle.std.specs.Prelude.{if◌then◌else◌}
 use mathlib.Core.Path.{refl, ap, ◌∙◌}
 use mathlib.Core.Bool.{Bool, not}
 use Prim.Native.Nat.{ℕ}
 use lib.Dec.{eqb}
-use Rattle.plan.specs.Lists.{if◌then◌else◌}
 use Rattle.storage.specs.Edges.{stored_edge, loosened_if}
 use Rattle.node_rules.specs.Held.{ins_of}
 use Rattle.node_rules.proofs.EdgeChanges.{none_changed, one_changed, neither, none_loosened, in_loosened, ins_loosened}
