@@ -13,6 +13,7 @@ told : (s entry exit : List ℕ) (a known : Answer) → call a exit ≡ finish s
 told s entry exit a known e is =
     let same : known ≡ (finish s entry).answer = sym is ∙ ap (λ (x : Called). x.answer) e in
     (ap answer_number same, (ap answer_length same, ap (λ (x : Called). x.output) e))
+
 pub returns-in-Finished : goal.returns-in-Finished
 returns-in-Finished c = let both = told _ _ _ _ _ c.finish.ensures.out_after c.in-Finished.is in record { value = both.0; length_after = both.1.0; out_after = both.1.1 }
 

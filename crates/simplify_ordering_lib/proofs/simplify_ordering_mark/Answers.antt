@@ -10,6 +10,7 @@ told : (s paper entry exit : List ℕ) (a known : Mark) (n : ℕ) → mark_call 
     → (n ≡ mark_answer (marked s paper entry).answer) × (exit ≡ (marked s paper entry).output)
 told s paper entry exit a known n e is number =
     (number ∙ ap mark_answer (sym is ∙ ap (λ (x : MarkCalled). x.answer) e), ap (λ (x : MarkCalled). x.output) e)
+
 pub returns-in-Right : goal.returns-in-Right
 unfolding mark_answer
 returns-in-Right c = let both = told _ _ _ _ _ Mark.Right _ c.mark.ensures c.in-Right.is refl in record { value = both.0; out_after = both.1 }
