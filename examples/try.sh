@@ -89,7 +89,7 @@ try_stack() {
 
 rm -rf "$work"
 mkdir -p "$work/sheets"
-(cd "$root" && rt staticlib simplify_ordering_lib) > "$work/library.log" 2>&1 || fail "no static library: $work/library.log says why"
+"$root/scripts/library" > "$work/library.log" 2>&1 || fail "no static library: $work/library.log says why"
 sheets_of_the_guide
 [ -s "$work/sheets/1" ] || fail 'no sheet was found in docs/GUIDE.md'
 head -c 16385 /dev/zero | tr '\0' E > "$work/sheets/too-long"

@@ -5,7 +5,7 @@ set -e
 unset CDPATH
 called_from=$PWD
 cd "$(dirname "$0")"
-(cd .. && rt staticlib simplify_ordering_lib) >&2
+../scripts/library >&2
 cargo build --release --offline --features port --bin compare --target-dir target/linked >&2
 mkdir -p target/release
 cp target/linked/release/compare target/release/compare

@@ -22,9 +22,9 @@ ROOT = pathlib.Path(__file__).resolve().parent.parent
 BIN = ROOT / "oracle" / "target" / "release"
 MARK = b"---\n"
 HEAD = """use lib.Dec.{T}
-use Rattle·plan·specs.specs.Sheet.{refused, done}
-use Rattle·plan·proofs.proofs.Cases.{bytes, right, written, agree}
-use Rattle·plan·proofs.proofs.Computing.{computing}
+use Rattle.plan.specs.Sheet.{refused, done}
+use Rattle.plan.proofs.Cases.{bytes, right, written, agree}
+use Rattle.plan.proofs.Computing.{computing}
 """
 
 
@@ -54,12 +54,13 @@ def main():
     answers = answers.split(MARK)[:-1]
     assert len(sheets) == len(answers)
     with tempfile.TemporaryDirectory() as folder:
-        plan = pathlib.Path(folder) / "plan"
-        shutil.copytree(ROOT / "crates" / "plan", plan, ignore=shutil.ignore_patterns("must-fail"))
+        plan = pathlib.Path(folder) / "crates" / "plan"
+        shutil.copytree(ROOT / "crates" / "plan", plan, ignore=shutil.ignore_patterns("must-fail", "out"))
+        (pathlib.Path(folder) / "crates.txt").write_text("plan:\n")
         (plan / "proofs" / "Rows.antt").write_text(HEAD + "".join(map(row, range(len(sheets)), sheets, answers)))
         with open(plan / "proofs" / "Lib.antt", "a") as lib:
             lib.write("pub mod Rows\n")
-        run = subprocess.run(["rt", "check", plan], stdout=subprocess.PIPE, stderr=subprocess.STDOUT, text=True)
+        run = subprocess.run(["rt", "check"], cwd=plan, stdout=subprocess.PIPE, stderr=subprocess.STDOUT, text=True)
     bad = re.search(r"`row(\d+)`", run.stdout)
     if run.returncode != 0:
         print(run.stdout[-2000:] if not bad else f"row {bad[1]} differs")

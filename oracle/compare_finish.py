@@ -4,7 +4,7 @@
     oracle/compare_finish.py FAMILY SEED COUNT
 
 Prints how many sheets agree, or the first that does not with both answers. Both programs have to be built first: the oracle
-(README, 'Comparing with the Rust') and target/bin/finish (`rt check finish`).
+(README, 'Comparing with the Rust') and target/bin/finish (`./finish < examples/sheet`).
 """
 import pathlib
 import subprocess

@@ -44,7 +44,7 @@ program_stands() {
 # edits that must fail go into no program.
 sources_changed() {
     local first
-    first="$(find "$root/crates" "$root/crates.txt" \( -name data -o -name must-fail \) -prune -o -cnewer "$note" -print -quit)" ||
+    first="$(find "$root/crates" "$root/crates.txt" \( -name data -o -name must-fail -o -name out \) -prune -o -cnewer "$note" -print -quit)" ||
         return 0
     [ -n "$first" ]
 }
@@ -62,16 +62,21 @@ why_build() {
     fi
 }
 
-# rt goes by what the sources hold, not by their dates, and does not ask whether the program is still there; without rt's stamp it
-# is built again. What is noted has the time at which the build began: a source that changes meanwhile is newer.
+# rt proves and builds the program, and then runs it once, here on nothing: what it writes then goes to the log, and how it ends
+# says nothing, so whether it was built is seen by the program that rt leaves. What is noted has the time at which the build began:
+# a source that changes meanwhile is newer.
 build() {
-    local log="$root/target/build-$name.log"
+    local folder log="$root/target/build-$name.log" made="$root/crates/$name/out/$name"
     printf '%s: %s: proving and building it, up to some minutes; log: %s\n' "${0##*/}" "$1" "$log" >&2
     command -v rt > /dev/null || fail 'that needs the Rattle toolchain, and there is no command rt'
-    program_stands || rm -f "$root/target/stamp/$name"
+    rm -f "$made"
+    # so that no folder of sources changes by what rt makes
+    for folder in "$root"/crates/*/; do mkdir -p "$folder/out"; done
     : > "$note.began"
-    (cd "$root" && rt check "$name") < /dev/null > "$log" 2>&1 || fail 'not proved or not built; the log says why'
-    program_there || fail "rt left no program at $program"
+    (cd "$root/crates/$name" && rt run) < /dev/null > "$log" 2>&1 || true
+    [ -s "$made" ] && [ -x "$made" ] || fail 'not proved or not built; the log says why'
+    mkdir -p "$root/target/bin"
+    cp -f "$made" "$program"
     note_of > "$note.new"
     touch -r "$note.began" "$note.new"
     mv "$note.new" "$note"

@@ -1,4 +1,4 @@
-//! Finds the static library, which `rt staticlib` makes.
+//! Finds the static library, which `scripts/library` makes.
 use std::env;
 use std::path::PathBuf;
 
@@ -14,7 +14,7 @@ fn main() {
     if !library.is_file() {
         eprintln!("error: there is no {}", library.display());
         eprintln!(
-            "Run `rt staticlib simplify_ordering_lib` at the top of the repository, or name its folder in {PLACE}."
+            "Run `scripts/library` at the top of the repository, or name its folder in {PLACE}."
         );
         std::process::exit(1);
     }

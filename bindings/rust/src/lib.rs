@@ -1,4 +1,4 @@
-//! Finishing a sheet, and marking a paper against it, by the static library that `rt staticlib simplify_ordering_lib` makes from
+//! Finishing a sheet, and marking a paper against it, by the static library that `scripts/library` makes from
 //! proved code. `include/simplify_ordering.h` has the same two calls for C, and says how much stack they take.
 //!
 //! ```
