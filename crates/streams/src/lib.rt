@@ -2,7 +2,13 @@
 #![tactic(auto)]
 
 ghost use Rattle.std.specs.Prelude.{◌≡◌, true, ◌≤◌, length};
-ghost use Rattle.io.specs.Counts.{IsPrefixLen};
+ghost use Rattle.streams.specs.Counts.{IsPrefixLen};
+
+use std::env::{Env, FillError};
+use std::fmt::Display;
+use std::fs::Files;
+use std::io::{ErrorKind, Read, Write};
+use std::{fs, io, str};
 
 // How many bytes were read, or that a read failed.
 #[derive(Clone, Copy)]
@@ -11,24 +17,64 @@ pub struct Input {
     pub length: usize,
 }
 
-// One read; it moves nothing at the end of the input.
-fn read_once(fd: i32, buf: &mut [u8]) -> Input
-    ensures { result.length ≤ length buf.old }
-{
-    let got = libc::read(fd, buf);
-    Input {
-        failed: got < 0,
-        length: io::count(got, buf),
+// The reason of an error as the system words it: std has the error's number behind it.
+fn reason(text: &str) -> &str {
+    match text.split_once(" (os error ") {
+        Some((words, _)) => words,
+        None => text,
     }
 }
 
-// Reads until the input ends or the buffer is full, whichever comes first.
-pub fn read_input(fd: i32, buf: &mut [u8]) -> Input
+// Writes a line to standard error: what failed, as the caller names it, a colon and the reason.
+pub fn fail<D: Display + Drop>(rt: &impl Eprint, what: D, error: io::Error) {
+    let mut text = [0u8; 512];
+    let mut rest: &mut [u8] = &mut text;
+    let _ = write!(rest, "{error}");
+    let n = 512usize.saturating_sub(rest.len());
+    let words = reason(str::from_utf8(&text[..n]).unwrap_or(""));
+    let _ = eprintln!(rt; "{what}: {words}");
+}
+
+// Is there an argument i? Argument 0 is the program's name.
+pub fn has_argument(rt: &impl Env, i: usize) -> bool {
+    let mut first: [u8; 1] = [0; 1];
+    !matches!(rt.arg(i, &mut first), Err(FillError::NotPresent))
+}
+
+// Puts the program's argument i at the start of the buffer, and returns its length: 0 where there is no such argument, or
+// it is longer than the buffer.
+pub fn argument(rt: &impl Env, i: usize, buf: &mut [u8]) -> usize
+    ensures { IsPrefixLen result buf.new }
+{
+    rt.arg(i, buf).unwrap_or(0)
+}
+
+// One read; it moves nothing at the end of the input.
+fn read_once<R: Read>(rt: &impl Eprint, name: &str, from: &mut R, buf: &mut [u8]) -> Input
+    ensures { result.length ≤ length buf.old }
+{
+    match from.read(buf) {
+        Ok(n) => Input {
+            failed: false,
+            length: n,
+        },
+        Err(error) => {
+            fail(rt, name, error);
+            Input {
+                failed: true,
+                length: 0,
+            }
+        }
+    }
+}
+
+// Reads until the input ends or the buffer is full, whichever comes first; what cannot be read is told on standard error.
+pub fn read_input<R: Read>(rt: &impl Eprint, name: &str, from: &mut R, buf: &mut [u8]) -> Input
     ensures { IsPrefixLen result.length buf.new }
 {
     let mut done: usize = 0;
     while done < buf.len() {
-        let got = read_once(fd, &mut buf[done..]);
+        let got = read_once(rt, name, from, &mut buf[done..]);
         if got.failed {
             return Input {
                 failed: true,
@@ -46,33 +92,47 @@ pub fn read_input(fd: i32, buf: &mut [u8]) -> Input
     }
 }
 
-// Reads the file at a path; what cannot be read is told on standard error.
-pub fn read_path(path: &[u8], buf: &mut [u8]) -> Input
+// Reads the file at a path; what cannot be read is told on standard error. A path that is no text names no file.
+pub fn read_path<R: Files + Eprint>(rt: &R, path: &[u8], buf: &mut [u8]) -> Input
     ensures { IsPrefixLen result.length buf.new }
 {
-    let fd = os::open_read(path);
-    if fd < 0 {
-        os::fail(path);
+    let Ok(name) = str::from_utf8(path) else {
+        fail(
+            rt,
+            path.escape_ascii(),
+            io::Error::from(ErrorKind::InvalidFilename),
+        );
         return Input {
             failed: true,
             length: 0,
         };
+    };
+    match fs::open(rt, name) {
+        Ok(mut file) => read_input(rt, name, &mut file, buf),
+        Err(error) => {
+            fail(rt, name, error);
+            Input {
+                failed: true,
+                length: 0,
+            }
+        }
     }
-    let input = read_input(fd, buf);
-    if input.failed {
-        os::fail(path);
-    }
-    libc::close(fd);
-    input
 }
 
-// Did the first n bytes all go out? Of no bytes that holds; of others the system says it, and no contract can.
-pub fn write_front(fd: i32, buf: &[u8], n: usize) -> bool
+// Did the first n bytes all go out? Of no bytes that holds; of others the system says it, and no contract can. What cannot
+// be written is told on standard error.
+pub fn write_front(rt: &(impl Print + Eprint), buf: &[u8], n: usize) -> bool
     requires { n ≤ length buf.now }
     ensures { n ≡ 0 → result ≡ true }
 {
     if n == 0 {
         return true;
     }
-    io::write_all(fd, &buf[..n])
+    match rt.write_all(&buf[..n]) {
+        Ok(()) => true,
+        Err(error) => {
+            fail(rt, "standard output", error);
+            false
+        }
+    }
 }
