@@ -6,9 +6,9 @@
 ghost use Rattle.std.specs.Prelude.{◌<◌, ◌≤◌, length};
 ghost use Rattle.plan.specs.Finished.{answer_length};
 
-use libc::STDOUT_FILENO;
 use marking::answer::Mark;
 use plan::answer::Answer;
+use std::io;
 use streams::read_path;
 use writing::lines::put_refusal;
 
@@ -176,7 +176,7 @@ fn find(b: Block, sheet: &[u8], block: &[u8]) -> Found {
 }
 
 fn more(n: u64) -> u64 {
-    std::num::wrapping_add_u64(n, 1)
+    n.wrapping_add(1)
 }
 
 fn differing(s: Score) -> Score {
@@ -247,26 +247,24 @@ fn run_all(text: &[u8]) -> Score {
     s
 }
 
-fn report(s: Score) {
-    io::print_decimal(STDOUT_FILENO, s.sheets);
-    io::write_all(STDOUT_FILENO, b" sheets, ");
-    io::print_decimal(STDOUT_FILENO, s.agree);
-    io::write_all(STDOUT_FILENO, b" examples agree, ");
-    io::print_decimal(STDOUT_FILENO, s.differ);
-    io::write_all(STDOUT_FILENO, b" differ\n");
-    if s.differ != 0 {
-        io::write_all(STDOUT_FILENO, b"the first that differs is ");
-        io::print_decimal(STDOUT_FILENO, s.first);
-        io::write_all(STDOUT_FILENO, b"\n");
+fn report(rt: &impl Print, s: Score) -> io::Result<()> {
+    let sheets = s.sheets;
+    let agree = s.agree;
+    let differ = s.differ;
+    println!(rt; "{sheets} sheets, {agree} examples agree, {differ} differ")?;
+    if differ != 0 {
+        let first = s.first;
+        println!(rt; "the first that differs is {first}")?;
     }
+    Ok(())
 }
 
-fn main() {
-    let mut buf = io::large_buffer();
-    let guide = read_path(b"GUIDE.md", &mut buf);
+fn main(rt: HostRuntime) -> io::Result<()> {
+    let mut buf: [u8; 65536] = [0; 65536];
+    let guide = read_path(&rt, b"GUIDE.md", &mut buf);
     if guide.failed {
-        return;
+        return Ok(());
     }
     let n = guide.length;
-    report(run_all(&buf[..n]));
+    report(&rt, run_all(&buf[..n]))
 }
