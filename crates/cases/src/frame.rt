@@ -1,8 +1,11 @@
 // The form of a case: the lengths of three parts in two bytes each, the high one first, and then the parts. They are the
 // sheet, what else is asked, and what is told.
 ghost use Rattle.std.specs.Prelude.{◌≡◌, ◌+◌, ◌<◌, ◌≤◌, length};
-ghost use Rattle.io.specs.Counts.{IsPrefixLen};
+ghost use Rattle.streams.specs.Counts.{IsPrefixLen};
 ghost use Rattle.cases.specs.Within.{Within};
+
+use std::io::Read;
+use streams::read_input;
 
 // Where the parts of a case end, in the bytes after the lengths. `ended` is set where the file has no case more, and `whole`
 // where it has all of this one.
@@ -29,20 +32,26 @@ pub fn two(s: &[u8], i: usize) -> usize
     wide(s[i]) * 256 + wide(s[i + 1])
 }
 
-// Reads up to n bytes to the front of the buffer; answers how many came.
-fn read_front(fd: i32, buf: &mut [u8], n: usize) -> usize
+// Reads up to n bytes to the front of the buffer; answers how many came, none where the read failed.
+fn read_front<R: Read>(
+    rt: &impl Eprint,
+    path: &str,
+    file: &mut R,
+    buf: &mut [u8],
+    n: usize,
+) -> usize
     requires { n ≤ length buf.old }
     ensures { IsPrefixLen result buf.new }
 {
-    io::read_full(fd, &mut buf[..n])
+    read_input(rt, path, file, &mut buf[..n]).length
 }
 
 // Reads the next case, and its parts to the front of the buffer. A case that the buffer can't hold is not whole.
-pub fn read_case(fd: i32, buf: &mut [u8]) -> Parts
+pub fn read_case<R: Read>(rt: &impl Eprint, path: &str, file: &mut R, buf: &mut [u8]) -> Parts
     ensures { Within result buf.new }
 {
     let mut head: [u8; 6] = [0; 6];
-    let n = io::read_full(fd, &mut head);
+    let n = read_input(rt, path, file, &mut head).length;
     let sheet = two(&head, 0);
     let asked = sheet + two(&head, 2);
     let told = asked + two(&head, 4);
@@ -55,7 +64,7 @@ pub fn read_case(fd: i32, buf: &mut [u8]) -> Parts
             told: 0,
         };
     }
-    let m = read_front(fd, buf, told);
+    let m = read_front(rt, path, file, buf, told);
     Parts {
         ended: n == 0,
         whole: (n == 6) & (m == told),

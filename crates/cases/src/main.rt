@@ -7,6 +7,10 @@ ghost use Rattle.cases.specs.Within.{Within};
 
 use crate::frame::{Parts, read_case};
 use crate::score::{Score, counted, report};
+use std::fs::Files;
+use std::io::Read;
+use std::{fs, io};
+use streams::fail;
 
 mod frame;
 mod graph;
@@ -62,15 +66,21 @@ fn case_agrees(folder: Folder, c: Parts, buf: &[u8], answers: &mut [u64; 256]) -
 }
 
 // A proved loop has to end, and nothing says that a file does: it stops at 100,000 cases.
-fn run_all(fd: i32, folder: Folder, answers: &mut [u64; 256]) -> Score {
+fn run_all<R: Read>(
+    rt: &impl Eprint,
+    path: &str,
+    file: &mut R,
+    folder: Folder,
+    answers: &mut [u64; 256],
+) -> Score {
     let mut s = Score {
         all: 0,
         agree: 0,
         first: 0,
     };
-    let mut buf = io::large_buffer();
+    let mut buf: [u8; 65536] = [0; 65536];
     while s.all < 100000 {
-        let c = read_case(fd, &mut buf);
+        let c = read_case(rt, path, file, &mut buf);
         if c.ended {
             break;
         }
@@ -79,23 +89,37 @@ fn run_all(fd: i32, folder: Folder, answers: &mut [u64; 256]) -> Score {
     s
 }
 
-fn run_folder(name: &[u8], path: &[u8], folder: Folder, answers: &mut [u64; 256]) {
-    let fd = os::open_read(path);
-    if fd < 0 {
-        os::fail(path);
-        return;
+fn run_folder<R: Files + Print + Eprint>(
+    rt: &R,
+    name: &str,
+    path: &str,
+    folder: Folder,
+    answers: &mut [u64; 256],
+) -> io::Result<()> {
+    match fs::open(rt, path) {
+        Ok(mut file) => {
+            let s = run_all(rt, path, &mut file, folder, answers);
+            report(rt, name, s)
+        }
+        Err(error) => {
+            fail(rt, path, error);
+            Ok(())
+        }
     }
-    let s = run_all(fd, folder, answers);
-    libc::close(fd);
-    report(name, s);
 }
 
-fn main() {
+fn main(rt: HostRuntime) -> io::Result<()> {
     let mut answers: [u64; 256] = [0; 256];
-    run_folder(b"reading", b"reading/cases", Folder::Reading, &mut answers);
-    run_folder(b"graph", b"graph/cases", Folder::Graph, &mut answers);
-    run_folder(b"lists", b"lists/cases", Folder::Lists, &mut answers);
-    run_folder(b"sheets", b"sheets/cases", Folder::Sheets, &mut answers);
-    crate::sheets::report_answers(&answers);
-    run_folder(b"papers", b"papers/cases", Folder::Papers, &mut answers);
+    run_folder(
+        &rt,
+        "reading",
+        "reading/cases",
+        Folder::Reading,
+        &mut answers,
+    )?;
+    run_folder(&rt, "graph", "graph/cases", Folder::Graph, &mut answers)?;
+    run_folder(&rt, "lists", "lists/cases", Folder::Lists, &mut answers)?;
+    run_folder(&rt, "sheets", "sheets/cases", Folder::Sheets, &mut answers)?;
+    crate::sheets::report_answers(&rt, &answers)?;
+    run_folder(&rt, "papers", "papers/cases", Folder::Papers, &mut answers)
 }

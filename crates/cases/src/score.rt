@@ -1,7 +1,7 @@
 // How many cases of a folder agree.
 ghost use Rattle.std.specs.Prelude.{◌≡◌, ◌+◌, ◌<◌, ◌≤◌};
 
-use libc::STDOUT_FILENO;
+use std::io;
 
 // How many cases there are, how many of them agree, and the first that does not, counted from 1.
 #[derive(Clone, Copy)]
@@ -37,16 +37,13 @@ pub fn counted(s: Score, good: bool) -> Score
     }
 }
 
-pub(crate) fn report(name: &[u8], s: Score) {
-    io::write_all(STDOUT_FILENO, name);
-    io::write_all(STDOUT_FILENO, b": ");
-    io::print_decimal(STDOUT_FILENO, s.agree as u64);
-    io::write_all(STDOUT_FILENO, b" of ");
-    io::print_decimal(STDOUT_FILENO, s.all as u64);
-    io::write_all(STDOUT_FILENO, b" agree\n");
-    if s.agree != s.all {
-        io::write_all(STDOUT_FILENO, b"the first that differs is ");
-        io::print_decimal(STDOUT_FILENO, s.first as u64);
-        io::write_all(STDOUT_FILENO, b"\n");
+pub(crate) fn report(rt: &impl Print, name: &str, s: Score) -> io::Result<()> {
+    let all = s.all;
+    let agree = s.agree;
+    println!(rt; "{name}: {agree} of {all} agree")?;
+    if agree != all {
+        let first = s.first;
+        println!(rt; "the first that differs is {first}")?;
     }
+    Ok(())
 }

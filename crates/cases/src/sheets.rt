@@ -3,8 +3,8 @@
 ghost use Rattle.std.specs.Prelude.{◌≡◌, ◌<◌, length};
 
 use crate::frame::{two, wide};
-use libc::STDOUT_FILENO;
 use plan::answer::Answer;
+use std::io;
 
 // The byte that stands everywhere in an output before the call; no finished sheet has it.
 pub const FILLER: u8 = 170;
@@ -83,7 +83,7 @@ fn call_agrees(
 ) -> bool {
     let answer = engine::finish(sheet, out);
     let k = number_of(answer);
-    answers[k] = std::num::wrapping_add_u64(answers[k], 1);
+    answers[k] = answers[k].wrapping_add(1);
     right(answer, number, finished, out)
 }
 
@@ -103,24 +103,20 @@ pub(crate) fn agrees(sheet: &[u8], asked: &[u8], told: &[u8], answers: &mut [u64
 }
 
 // A number that was not answered is passed over.
-fn report_refused(number: u64, count: u64) {
+fn report_refused(rt: &impl Print, number: u64, count: u64) -> io::Result<()> {
     if count == 0 {
-        return;
+        return Ok(());
     }
-    io::write_all(STDOUT_FILENO, b"refused by ");
-    io::print_decimal(STDOUT_FILENO, number);
-    io::write_all(STDOUT_FILENO, b": ");
-    io::print_decimal(STDOUT_FILENO, count);
-    io::write_all(STDOUT_FILENO, b"\n");
+    println!(rt; "refused by {number}: {count}")
 }
 
-pub(crate) fn report_answers(answers: &[u64; 256]) {
-    io::write_all(STDOUT_FILENO, b"finished: ");
-    io::print_decimal(STDOUT_FILENO, answers[0]);
-    io::write_all(STDOUT_FILENO, b"\n");
+pub(crate) fn report_answers(rt: &impl Print, answers: &[u64; 256]) -> io::Result<()> {
+    let finished = answers[0];
+    println!(rt; "finished: {finished}")?;
     let mut i: usize = 1;
     while i < 256 {
-        report_refused(i as u64, answers[i]);
+        report_refused(rt, i as u64, answers[i])?;
         i += 1;
     }
+    Ok(())
 }
