@@ -99,14 +99,14 @@ ready() {
     exec 9>&-
 }
 
-# Is the name text in UTF-8? The programs open no other.
+# Is the name text in UTF-8? The programs open no other. Put into another form, since iconv takes more than UTF-8 for its own.
 is_text() {
-    printf '%s' "$1" | iconv -f UTF-8 -t UTF-8 > /dev/null 2>&1
+    printf '%s' "$1" | iconv -f UTF-8 -t UTF-16 > /dev/null 2>&1
 }
 
 # mark_of SHEET PAPER: what the program mark, made ready before, answers. Files with other names are handed over open.
 mark_of() {
-    if is_text "$1$2" || [ ! -r "$1" ] || [ ! -r "$2" ]; then
+    if is_text "$1/$2" || [ ! -r "$1" ] || [ ! -r "$2" ]; then
         "$program" "$1" "$2"
     else
         "$program" /dev/fd/3 /dev/fd/4 3< "$1" 4< "$2"

@@ -5,7 +5,6 @@ ghost use Rattle.streams.specs.Counts.{IsPrefixLen};
 ghost use Rattle.cases.specs.Within.{Within};
 
 use std::io::Read;
-use streams::read_input;
 
 // Where the parts of a case end, in the bytes after the lengths. `ended` is set where the file has no case more, and `whole`
 // where it has all of this one.
@@ -32,26 +31,35 @@ pub fn two(s: &[u8], i: usize) -> usize
     wide(s[i]) * 256 + wide(s[i + 1])
 }
 
-// Reads up to n bytes to the front of the buffer; answers how many came, none where the read failed.
-fn read_front<R: Read>(
-    rt: &impl Eprint,
-    path: &str,
-    file: &mut R,
-    buf: &mut [u8],
-    n: usize,
-) -> usize
+// Reads until the buffer is full, the file ends or a read fails; answers how many bytes came.
+fn read_full<R: Read>(file: &mut R, buf: &mut [u8]) -> usize
+    ensures { IsPrefixLen result buf.new }
+{
+    let mut done: usize = 0;
+    while done < buf.len() {
+        let got = file.read(&mut buf[done..]).unwrap_or(0);
+        if got == 0 {
+            break;
+        }
+        done += got;
+    }
+    done
+}
+
+// Reads up to n bytes to the front of the buffer; answers how many came.
+fn read_front<R: Read>(file: &mut R, buf: &mut [u8], n: usize) -> usize
     requires { n ≤ length buf.old }
     ensures { IsPrefixLen result buf.new }
 {
-    read_input(rt, path, file, &mut buf[..n]).length
+    read_full(file, &mut buf[..n])
 }
 
 // Reads the next case, and its parts to the front of the buffer. A case that the buffer can't hold is not whole.
-pub fn read_case<R: Read>(rt: &impl Eprint, path: &str, file: &mut R, buf: &mut [u8]) -> Parts
+pub fn read_case<R: Read>(file: &mut R, buf: &mut [u8]) -> Parts
     ensures { Within result buf.new }
 {
     let mut head: [u8; 6] = [0; 6];
-    let n = read_input(rt, path, file, &mut head).length;
+    let n = read_full(file, &mut head);
     let sheet = two(&head, 0);
     let asked = sheet + two(&head, 2);
     let told = asked + two(&head, 4);
@@ -64,7 +72,7 @@ pub fn read_case<R: Read>(rt: &impl Eprint, path: &str, file: &mut R, buf: &mut 
             told: 0,
         };
     }
-    let m = read_front(rt, path, file, buf, told);
+    let m = read_front(file, buf, told);
     Parts {
         ended: n == 0,
         whole: (n == 6) & (m == told),

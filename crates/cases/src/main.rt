@@ -66,13 +66,7 @@ fn case_agrees(folder: Folder, c: Parts, buf: &[u8], answers: &mut [u64; 256]) -
 }
 
 // A proved loop has to end, and nothing says that a file does: it stops at 100,000 cases.
-fn run_all<R: Read>(
-    rt: &impl Eprint,
-    path: &str,
-    file: &mut R,
-    folder: Folder,
-    answers: &mut [u64; 256],
-) -> Score {
+fn run_all<R: Read>(file: &mut R, folder: Folder, answers: &mut [u64; 256]) -> Score {
     let mut s = Score {
         all: 0,
         agree: 0,
@@ -80,7 +74,7 @@ fn run_all<R: Read>(
     };
     let mut buf: [u8; 65536] = [0; 65536];
     while s.all < 100000 {
-        let c = read_case(rt, path, file, &mut buf);
+        let c = read_case(file, &mut buf);
         if c.ended {
             break;
         }
@@ -98,7 +92,7 @@ fn run_folder<R: Files + Print + Eprint>(
 ) -> io::Result<()> {
     match fs::open(rt, path) {
         Ok(mut file) => {
-            let s = run_all(rt, path, &mut file, folder, answers);
+            let s = run_all(&mut file, folder, answers);
             report(rt, name, s)
         }
         Err(error) => {
