@@ -5,7 +5,7 @@ use mathlib.Core.Logic.{inl, inr, ◌≢◌}
 use Prim.Native.Nat.{ℕ, ◌+◌, ◌≤◌}
 use native.Mathlib.Omega.{arith}
 use native.Mathlib.Decide.{ℕ_discrete}
-use mathlib.Core.Bool.{true, false, and-false}
+use mathlib.Core.Bool.{false, and-false}
 use mathlib.Core.List.{List, [], ◌∷◌, map, Memᴰ}
 use mathlib.Core.Option.{Option, some}
 use lib.Dec.{T, eqb, eqb→eq, eqb_refl}

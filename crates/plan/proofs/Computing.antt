@@ -6,7 +6,7 @@ use Rattle.plan.specs.Graph.{sinks, pushes, pop, popped, first_met, all_steps, k
 use Rattle.plan.specs.Orders.{add}
 use Rattle.plan.specs.Look.{before, check_return_cached, is_replaced, after, look_along, look_again, look_along_children, look_ended, look_whole, look_at, look, simplify_projected_exprs}
 use Rattle.plan.specs.Visit.{arm, out_edge, in_edge, ins_unordered, outs_unordered, around, implode, imploded, with_implodes, allow_deordering_top, looks_of, unlink_node, goes, looked_in, settle, simplify_ir_node_orders, refusal_number, ruling_of, settled_by}
-use Rattle.plan.specs.Walks.{walk, begin, down, up, updated, simplify_and_fetch_orderings, trace, trace_by, walk_by}
+use Rattle.plan.specs.Walks.{begin, down, up, updated, simplify_and_fetch_orderings, trace_by, walk_by}
 use Rattle.plan.specs.Text.{digits, line, expr_line, step_line, edge_line, tally_line, exprs_block, steps_block, edges_block, printed, blocks, joined, end_of}
 use Rattle.plan.specs.Finished.{run, finished, finished_answer, called, finish}
 

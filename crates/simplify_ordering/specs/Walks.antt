@@ -8,7 +8,6 @@ use Rattle.plan.specs.Walks.{walk, begin, down}
 use Rattle.claims.specs.WellFormed.{WellFormed}
 use Rattle.plan.specs.declared.tally.Tally.{Tally}
 use Rattle.claims.specs.Visitable.{AllVisitable}
-use Rattle.simplify_ordering.specs.declared.walks.Fetched.{Fetched}
 use Rattle.simplify_ordering.specs.declared.walks.Orderings.{Orderings}
 use Rattle.simplify_ordering.specs.declared.walks.Walked.{Walked}
 use Rattle.storage.specs.declared.edges.GraphSize.{GraphSize}

@@ -1,7 +1,7 @@
-use Prim.Native.Nat.{ℕ, ◌-◌, ◌≤◌}
+use Prim.Native.Nat.{ℕ, ◌-◌}
 use native.Mathlib.Omega.{arith}
-use lib.ListN.{get_or, replicate, length-replicate}
-use Rattle.ir_graph.proofs.FirstPass.{Turn, begins, hits_ended, turns_ended, noted_ended, turn, popping_next}
+use lib.ListN.{replicate, length-replicate}
+use Rattle.ir_graph.proofs.FirstPass.{begins, hits_ended, turns_ended, noted_ended, turn, popping_next}
 use Rattle.ir_graph.proofs.hits.count_hits.Goals as goal
 
 pub loop-len-init : goal.loop-len-init

@@ -1,7 +1,4 @@
-use Prim.Native.Nat.{◌<◌}
 use native.Mathlib.Omega.{arith}
-use lib.ListN.{get_or}
-use Rattle.ir_graph.proofs.SecondPass.{Turn}
 use Rattle.ir_graph.proofs.Graphs.{placing, turn_at, places_left, pushed_there, placing_next, built}
 use Rattle.ir_graph.proofs.ir_graph.grow.Goals as goal
 

@@ -1,10 +1,5 @@
-use mathlib.Core.Path.{◌≡◌, sym, ◌∙◌}
+use mathlib.Core.Path.{sym, ◌∙◌}
 use native.Mathlib.Omega.{arith}
-use mathlib.Core.Bool.{true}
-use Prim.Native.Nat.{◌+◌, ◌*◌, ◌≤◌, ◌<◌}
-use lib.ListN.{get_or}
-use borrow.Author.Tests.{not-false}
-use Rattle.ir_graph.specs.Turns.{cached}
 use Rattle.ir_graph.proofs.Bounds.{cache_there}
 use Rattle.ir_graph.proofs.UpdateCaches.{not_updated, line_there, have_inputs, input_updated}
 use Rattle.ir_graph.proofs.update_cache_nodes.update_cache_node.Goals as goal

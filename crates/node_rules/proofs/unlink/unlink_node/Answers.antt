@@ -1,6 +1,5 @@
 use mathlib.Core.Path.{sym, ap, ◌∙◌}
 use mathlib.Core.List.{map}
-use Prim.Native.Nat.{◌<◌}
 use Rattle.plan.specs.Graph.{Edge}
 use Rattle.storage.specs.Edges.{producer_of, stored_edges}
 use Rattle.node_rules.specs.Held.{cut_off}

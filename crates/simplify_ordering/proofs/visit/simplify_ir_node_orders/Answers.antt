@@ -1,18 +1,10 @@
-use mathlib.Core.Path.{◌≡◌, sym, ◌∙◌, subst}
-use mathlib.Core.Bool.{◌&&◌, not}
+use mathlib.Core.Path.{sym, ◌∙◌, subst}
 use mathlib.Core.List.{[]}
-use Prim.Native.Nat.{◌<◌}
 use native.Mathlib.Omega.{arith}
 use lib.Dec.{T}
-use Rattle.plan.specs.Kinds.{same_ir}
-use Rattle.plan.specs.declared.ir.IR.{IR}
-use Rattle.plan.specs.Lists.{yes?}
-use Rattle.plan.specs.Sheet.{step_at}
-use Rattle.plan.specs.Visit.{around}
 use Rattle.storage.specs.Stored.{arena_of, stored_steps}
 use Rattle.storage.specs.Edges.{stored_edges}
-use Rattle.node_rules.specs.Held.{Among}
-use Rattle.simplify_ordering.specs.Run.{run_of, Finds}
+use Rattle.simplify_ordering.specs.Run.{run_of}
 use Rattle.simplify_ordering.proofs.VisitLaws.{tests_read, goes_is, goes_on, goes_away, here_is, edges_held, unlinkable, settle_asked}
 use Rattle.simplify_ordering.proofs.visit.simplify_ir_node_orders.Goals as goal
 
