@@ -25,7 +25,7 @@ fn reason(text: &str) -> &str {
     }
 }
 
-// Writes a line to standard error: what failed, as the caller names it, a colon and the reason.
+// Writes a line to standard error: what failed, as the caller names it, a colon and the reason. No contract can say what goes out.
 pub fn fail<D: Display + Drop>(rt: &impl Eprint, what: D, error: io::Error) {
     let mut text = [0u8; 512];
     let mut rest: &mut [u8] = &mut text;
@@ -35,7 +35,7 @@ pub fn fail<D: Display + Drop>(rt: &impl Eprint, what: D, error: io::Error) {
     let _ = eprintln!(rt; "{what}: {words}");
 }
 
-// Is there an argument i? Argument 0 is the program's name.
+// Is there an argument i? Argument 0 is the program's name. What a program was called with no contract can say.
 pub fn has_argument(rt: &impl Env, i: usize) -> bool {
     let mut first: [u8; 1] = [0; 1];
     !matches!(rt.arg(i, &mut first), Err(FillError::NotPresent))

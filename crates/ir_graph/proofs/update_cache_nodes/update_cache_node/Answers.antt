@@ -8,6 +8,7 @@ pub returns-then-not-is_cache : goal.returns-then-not-is_cache
 returns-then-not-is_cache c = let e = sym c.is_cache.ensures ∙ c.if-not-is_cache.true in
     record { n_after = not_updated _ _ c.args.m (cache_there c.args.steps.now c.args.n c.args.m c.requires.steps_held.1 ∙ e); steps_held_2 = c.requires.steps_held.0 }
 
+-- both lines are there, and have an input
 pub overflow_cast-line : goal.overflow_cast-line
 overflow_cast-line c = omega (arith, line_there c.args.steps.now c.args.n c.args.first.now c.args.m c.requires.steps_held.0 c.requires.steps_held.1 c.requires.updatable (sym c.is_cache.ensures ∙ c.if-not-is_cache.false), c.requires.steps_held.0.few)
 

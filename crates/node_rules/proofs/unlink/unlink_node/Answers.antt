@@ -8,6 +8,7 @@ use Rattle.node_rules.proofs.UnlinkLaws.{edge_there, edge_is}
 use native.Mathlib.Omega.{arith}
 use Rattle.node_rules.proofs.unlink.unlink_node.Goals as goal
 
+-- by `edge_there`, the edge leaving n is one
 pub consumer_of-c-requires : goal.consumer_of-c-requires
 consumer_of-c-requires c = omega (arith, edge_there c.args.ends.now c.args.edges.now c.args.size.edges c.args.n c.leaving_edge-k.result (c.leaving_edge-k.ensures.0 c.args.ends.now) c.requires.unlinkable.unordered, c.requires.edges_held.0.few)
 

@@ -19,6 +19,7 @@ pub around_step-e-requires : goal.around_step-e-requires
 around_step-e-requires c =
     (record { few = c.requires.run_held.0.few; small = omega (arith, c.requires.run_held.0.steps_held.few, here_is c.args.recs.now c.args.line.now c.args.off.now c.args.exprs c.args.steps.now c.args.ends.now c.args.edges.now c.args.size c.args.tally c.requires.run_held.0 c.args.n c.requires.visitable) }, record { order = c.in_edges_of-d.ensures.order; fits = c.in_edges_of-d.ensures.fits })
 
+-- `tests_read` says what the test for a removal reads
 pub unlink_node-requires : goal.unlink_node-requires
 unlink_node-requires c = let ps = stored_steps c.args.steps.now c.args.size.steps in
     let ds = stored_edges c.args.ends.now c.args.edges.now c.args.size.edges in
@@ -43,6 +44,7 @@ returns-then-goes c = let ps = stored_steps c.args.steps.now c.args.size.steps i
       run_held_2 = record { arena = c.requires.run_held.0.arena; steps_held = c.unlink_node.ensures.steps_held_2.0; few = c.requires.run_held.0.few; bytes = c.unlink_node.ensures.steps_held_2.1 };
     }
 
+-- the step as this visit finds it
 pub settle-requires : goal.settle-requires
 settle-requires c = record { run_held = (c.requires.run_held.0, record { there = here_is c.args.recs.now c.args.line.now c.args.off.now c.args.exprs c.args.steps.now c.args.ends.now c.args.edges.now c.args.size c.args.tally c.requires.run_held.0 c.args.n c.requires.visitable; options_are = c.options_of-s.ensures; run = c.in_edges_of-d.ensures; around_is = c.around_step-e.ensures c.args.ends.now c.in_edges_of-d.ensures }); settle_asks = settle_asked c.args.n (run_of c.args.recs.now c.args.line.now c.args.off.now c.args.exprs c.args.steps.now c.args.ends.now c.args.edges.now c.args.size [] [] c.args.tally) c.requires.visitable }
 

@@ -7,6 +7,7 @@ use Rattle.simplify_ordering.specs.Run.{run_of}
 use Rattle.simplify_ordering.proofs.WalkLaws.{walking_begins, walking_stops, next_visitable, visitable_apart, has_room, walking_next, walked_all, goes_back}
 use Rattle.simplify_ordering.proofs.walks.walk.Goals as goal
 
+-- `before` is the run as the walk sets out, `after` the run as this turn finds it
 pub loop-i-init : goal.loop-i-init
 loop-i-init c =
     let before : List ℕ → List ℕ → Run = λ b d. run_of c.args.recs.now c.args.line.now c.args.off.now c.args.w.exprs c.args.steps.now c.args.ends.now c.args.edges.now c.args.size b d c.args.w.tally in

@@ -10,6 +10,5 @@ invariant-loop-i l =
     × Walking l.list (drop l.i l.list) (λ b d. run_of l.initial.recs l.initial.line l.initial.off l.initial.r.exprs l.initial.steps l.ends l.initial.edges l.size b d l.initial.r.tally) (λ b d. run_of l.recs l.line l.off l.r.exprs l.steps l.ends l.edges l.size b d l.r.tally) l.initial.r l.r (drop l.r.at l.back)
     × Come l.list l.back l.i l.initial.r l.r
 
--- the run as the walk sets out
 abbrev pub decreases-loop-i : goal.decreases-loop-i
 decreases-loop-i l = length l.list - l.i

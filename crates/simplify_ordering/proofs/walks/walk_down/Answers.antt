@@ -7,6 +7,7 @@ use native.Mathlib.Omega.{arith}
 use Rattle.simplify_ordering.proofs.FetchLaws.{begins, down_asks, down_given}
 use Rattle.simplify_ordering.proofs.walks.walk_down.Goals as goal
 
+-- `before` is the run as the walk sets out
 pub walk-requires : goal.walk-requires
 walk-requires c =
     let before : List ℕ → List ℕ → Run = λ b d. run_of c.args.recs.now c.args.line.now c.args.off.now c.args.exprs c.args.steps.now c.args.ends.now c.args.edges.now c.args.size b d (record { visits = 0; looks = 0 }) in
