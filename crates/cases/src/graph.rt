@@ -1,87 +1,53 @@
 // A case of the traversal graph: nothing else is asked; what is told is the number of places in two bytes, the visiting list,
 // and a consumer and a slot for each edge.
-ghost use Rattle.std.specs.Prelude.{ℕ, ◌+◌, ◌<◌, ◌≤◌, length};
-ghost use Rattle.storage.specs.Stored.{stored_steps, StepFormed};
+ghost use Rattle.std.specs.Prelude.{◌≤◌};
 ghost use Rattle.claims.specs.Plan.{Plan};
+ghost use Rattle.storage.specs.Held.{steps_in};
 
-use crate::frame::two;
+use crate::frame::{Case, two};
+use engine::read::{new_run, read_run};
 use ir_graph::ir_graph::build_ir_traversal_graph;
-use reading::read_plan;
+use ir_graph::places::Places;
 use storage::edges::{consumer_of, slot_of};
+use storage::stored::{Edges, Steps};
 
-// Are the entries of b the first of a?
-fn begins(a: &[u8; 288], b: &[u8]) -> bool
-    requires { length b.now ≤ 288 }
+// Are the first n edges told, a consumer and a slot for each, and no others?
+fn edges_agree(ends: &[u8; 544], n: usize, told: &[u8]) -> bool
+    requires { n ≤ 256 }
 {
-    let mut i: usize = 0;
-    while i < b.len() {
-        if a[i] != b[i] {
-            return false;
-        }
-        i += 1;
-    }
-    true
+    let (pairs, rest) = told.as_chunks::<2>();
+    pairs.len() == n
+        && rest.is_empty()
+        && pairs.iter().enumerate().all(|(k, pair)| {
+            *pair == [consumer_of(ends, k), slot_of(ends, k)]
+        })
 }
 
-// Are the pairs of b the consumers and slots of the first n edges?
-fn pairs_begin(ends: &[u8; 544], b: &[u8], n: usize) -> bool
-    requires { (n ≤ 256) × (n + n ≤ length b.now) }
+// Does the graph of a plan have these places and these edges?
+fn graph_agrees(steps: &Steps, made: &mut Edges, places: &[u8], edges: &[u8]) -> bool
+    requires { Plan (steps_in steps.now) }
 {
-    let mut i: usize = 0;
-    while i < n {
-        if consumer_of(ends, i) != b[i + i] {
-            return false;
-        }
-        if slot_of(ends, i) != b[i + i + 1] {
-            return false;
-        }
-        i += 1;
-    }
-    true
-}
-
-// Does the graph of a plan have these places and these edges, a consumer and a slot for each?
-fn graph_agrees(steps: &[u8; 1024], n: usize, places: &[u8], edges: &[u8]) -> bool
-    requires n_bound { n ≤ 32 }
-    requires plan { Plan (stored_steps steps.now n) }
-    requires by_index { (i : ℕ) → i < n → StepFormed steps.now i }
-{
-    let mut list: [u8; 288] = [0; 288];
-    let mut ends: [u8; 544] = [0; 544];
-    let mut made: [u8; 512] = [0; 512];
-    let g = build_ir_traversal_graph(steps, n, &mut list, &mut ends, &mut made);
-    if g.places != places.len() {
-        return false;
-    }
-    if g.edges + g.edges != edges.len() {
-        return false;
-    }
-    if !begins(&list, places) {
-        return false;
-    }
-    pairs_begin(&ends, edges, g.edges)
+    let mut list = Places::new();
+    let mut ends = [0; 544];
+    build_ir_traversal_graph(steps, &mut list, &mut ends, made);
+    list.as_slice() == places && edges_agree(&ends, made.count, edges)
 }
 
 // Is the sheet accepted, and does its graph have these places and these edges?
 fn plan_agrees(sheet: &[u8], places: &[u8], edges: &[u8]) -> bool {
-    let mut exprs: [u8; 2048] = [0; 2048];
-    let mut steps: [u8; 1024] = [0; 1024];
-    match read_plan(sheet, &mut exprs, &mut steps) {
-        reading::PlanRead::Refused(k) => false,
-        reading::PlanRead::Taken(c) => graph_agrees(&steps, c.steps, places, edges),
-    }
+    let mut run = new_run();
+    let Ok(()) = read_run(sheet, &mut run) else {
+        return false;
+    };
+    graph_agrees(&run.steps, &mut run.edges, places, edges)
 }
 
-pub(crate) fn agrees(sheet: &[u8], asked: &[u8], told: &[u8]) -> bool {
-    if asked.len() != 0 {
+pub(crate) fn agrees(case: Case<'_>) -> bool {
+    let ([], [high, low, told @ ..]) = (case.asked, case.told) else {
         return false;
-    }
-    if told.len() < 2 {
+    };
+    let Some((places, edges)) = told.split_at_checked(two(*high, *low)) else {
         return false;
-    }
-    let edges = 2 + two(told, 0);
-    if told.len() < edges {
-        return false;
-    }
-    plan_agrees(sheet, &told[2..edges], &told[edges..])
+    };
+    plan_agrees(case.sheet, places, edges)
 }

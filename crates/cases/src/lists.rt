@@ -1,194 +1,142 @@
 // A case of the looks at a list of expressions: allow_deordering_top and the list are asked; what is told is the looks in two
 // bytes, the answer, what was internally observed (1 for COLUMN, 2 for INDEPENDENT), and the records after the list, for each
 // its length and K, S, L, a and the children.
-ghost use Rattle.std.specs.Prelude.{◌≡◌, ◌<◌, ◌≤◌, true, length, take};
-ghost use Rattle.expr.specs.State.{Falls};
+ghost use Rattle.std.specs.Prelude.{◌≡◌, ◌<◌, true};
+ghost use Rattle.storage.specs.Entries.{Shaped, list_of};
+ghost use Rattle.storage.specs.Based.{Falls};
+ghost use Rattle.storage.specs.Start.{OwnLines, NoneOff};
 ghost use Rattle.expr.specs.Read.{ReadExprs};
-ghost use Rattle.cases.specs.Lists.{LinesSized, ListBelow};
 
-use crate::frame::{two, wide};
+use crate::frame::{Case, two};
+use engine::read::{new_run, read_run};
 use expr::eos::Eos;
 use expr::projected::{expr_order_simplifier, simplify_projected_exprs};
-use expr::start::{none_off, own_lines};
 use plan::orders::ObservableOrders;
-use plan::sizes::size_2048;
-use reading::read_plan;
+use storage::entries::Entries;
+use storage::stored::{Arena, Records};
 
 // 1 for COLUMN and 2 for INDEPENDENT.
-fn bits(o: ObservableOrders) -> u8 {
-    if o.column {
-        if o.independent { 3 } else { 1 }
-    } else {
-        if o.independent { 2 } else { 0 }
-    }
+fn bits(orders: ObservableOrders) -> u8 {
+    u8::from(orders.column) + 2 * u8::from(orders.independent)
 }
 
-// Is the record that was stored as line l, switched off or not, K, S, L, a and the children of b?
-fn record_agrees(recs: &[u8; 2048], l: usize, off: bool, b: &[u8]) -> bool
+// Is the record that was stored as line l, switched off or not, K, S, L, a and the children of what is told?
+fn record_agrees(records: &Records, l: usize, off: bool, told: &[u8]) -> bool
     requires { l < 128 }
 {
-    let at = l * 16;
-    let count = wide(recs[at + 12]);
-    if 8 < count {
-        return false;
+    let stored = &records.bytes[16 * l..16 * l + 16];
+    let mut record = [0; 12];
+    record.copy_from_slice(&stored[..12]);
+    if off {
+        record[3] = 0;
     }
-    if b.len() != count + 4 {
-        return false;
-    }
-    let mut i: usize = 0;
-    while i < b.len() {
-        let mut x = recs[at + i];
-        if off {
-            if i == 3 {
-                x = 0;
-            }
-        }
-        if x != b[i] {
-            return false;
-        }
-        i += 1;
-    }
-    true
+    told.len() == 4 + usize::from(stored[12]) && record.starts_with(told)
 }
 
-// Do the n records after the looks agree with those of b, each after its length?
-fn records_agree(recs: &[u8; 2048], n: usize, line: [u8; 128], off: [bool; 128], b: &[u8]) -> bool
-    requires { LinesSized n line off }
-{
-    let mut rest = b;
-    let mut q: usize = 0;
-    while q < n {
-        if rest.len() == 0 {
+// Do the records after the looks agree with those told, each after its length?
+fn records_agree(arena: &Arena, told: &[u8]) -> bool {
+    let records = &arena.records;
+    let lines = &arena.lines;
+    let mut rest = told;
+    for (&l, &off) in lines.holds.iter().zip(&lines.off).take(records.count) {
+        let Some((&length, behind)) = rest.split_first() else {
+            return false;
+        };
+        let Some((record, behind)) = behind.split_at_checked(usize::from(length)) else {
+            return false;
+        };
+        if 128 <= l || !record_agrees(records, usize::from(l), off, record) {
             return false;
         }
-        let end = wide(rest[0]) + 1;
-        if rest.len() < end {
-            return false;
-        }
-        let l = wide(line[q]);
-        if 128 <= l {
-            return false;
-        }
-        if !record_agrees(recs, l, off[q], &rest[1..end]) {
-            return false;
-        }
-        rest = &rest[end..];
-        q += 1;
+        rest = behind;
     }
-    rest.len() == 0
+    rest.is_empty()
 }
 
-// What a case says of its list.
+// The list that is looked at, and allow_deordering_top.
 #[derive(Clone, Copy)]
-struct Case {
-    looks: usize,
+struct Asked {
+    list: Entries,
     allow: bool,
+    ghost shaped: { Shaped list },
+}
+
+// What the looks at it come to.
+#[derive(Clone, Copy)]
+struct Told<'a> {
+    looks: usize,
     answer: u8,
     observed: u8,
-    count: u8,
-    nodes: [u8; 8],
+    records: &'a [u8],
 }
 
 // Do the answer, what was observed and the looks agree?
-fn answers_agree(s: Eos, c: Case) -> bool {
-    if bits(s.answer()) != c.answer {
-        return false;
-    }
-    if bits(s.observed()) != c.observed {
-        return false;
-    }
-    s.looks() == c.looks as u64
+fn answers_agree(s: Eos, told: Told<'_>) -> bool {
+    bits(s.answer()) == told.answer
+        && bits(s.observed()) == told.observed
+        && s.looks() == told.looks as u64
 }
 
-// Do the looks at the case's list come to what the case says, and leave the records of b?
-fn list_agrees(recs: &[u8; 2048], n: usize, c: Case, b: &[u8]) -> bool
-    requires read_exprs { ReadExprs recs.now n }
-    requires list_below { ListBelow n c.count c.nodes }
+// Do the looks at the list come to what is told, and leave the records told?
+fn list_agrees(arena: &mut Arena, asked: Asked, told: Told<'_>) -> bool
+    requires read { ReadExprs arena.old.records.bytes arena.old.records.count }
+    requires lines { OwnLines arena.old.lines.holds × NoneOff arena.old.lines.off }
+    requires below { Falls arena.old.records.count (list_of asked.list) }
 {
-    size_2048(recs);
-    let mut line = own_lines();
-    let mut off = none_off();
-    let mut cache: [u8; 128] = [0; 128];
-    let start = expr_order_simplifier();
-    let nodes = c.nodes;
+    let mut cache = [None; 128];
     let s = simplify_projected_exprs(
-        recs, &mut line, &mut off, &mut cache, n, start, nodes, c.count, c.allow,
+        &arena.records,
+        &mut arena.lines,
+        &mut cache,
+        expr_order_simplifier(),
+        asked.list,
+        asked.allow,
     );
-    if !answers_agree(s, c) {
-        return false;
-    }
-    records_agree(recs, n, line, off, b)
+    answers_agree(s, told) && records_agree(arena, told.records)
 }
 
-// Are the first `count` of the nodes below n?
-fn below(nodes: [u8; 8], count: u8, n: usize) -> bool
-    requires { (count ≤ 8) × (length nodes ≡ 8) }
-    ensures { result ≡ true → Falls n (take count nodes) }
+// Is each of the list below n?
+fn is_below(asked: Asked, n: usize) -> bool
+    ensures { result ≡ true → Falls n (list_of asked.list) }
 {
-    let mut i: usize = 0;
-    while i < wide(count) {
-        if n <= wide(nodes[i]) {
-            return false;
-        }
-        i += 1;
-    }
-    true
+    let nodes = asked.list.as_slice();
+    nodes.iter().all(|node| usize::from(*node) < n)
 }
 
-// Does the list stand within the n records that were read, and does it agree?
-fn list_within(recs: &[u8; 2048], n: usize, c: Case, b: &[u8]) -> bool
-    requires read_exprs { ReadExprs recs.now n }
-    requires count_bound { (c.count ≤ 8) × (length c.nodes ≡ 8) }
-{
-    let nodes = c.nodes;
-    if !below(nodes, c.count, n) {
+// Is the sheet accepted, does the list stand within its records, and does it agree?
+fn plan_agrees(sheet: &[u8], asked: Asked, told: Told<'_>) -> bool {
+    let mut run = new_run();
+    let Ok(()) = read_run(sheet, &mut run) else {
         return false;
-    }
-    list_agrees(recs, n, c, b)
-}
-
-// Is the sheet accepted, and does its list agree?
-fn plan_agrees(sheet: &[u8], c: Case, b: &[u8]) -> bool
-    requires { (c.count ≤ 8) × (length c.nodes ≡ 8) }
-{
-    let mut exprs: [u8; 2048] = [0; 2048];
-    let mut steps: [u8; 1024] = [0; 1024];
-    match read_plan(sheet, &mut exprs, &mut steps) {
-        reading::PlanRead::Refused(k) => false,
-        reading::PlanRead::Taken(k) => list_within(&exprs, k.exprs, c, b),
-    }
-}
-
-fn nodes_of(b: &[u8]) -> [u8; 8]
-    requires { length b.now ≤ 8 }
-    ensures { length result ≡ 8 }
-{
-    let mut nodes: [u8; 8] = [0; 8];
-    let mut i: usize = 0;
-    while i < b.len() {
-        nodes[i] = b[i];
-        i += 1;
-    }
-    nodes
-}
-
-pub(crate) fn agrees(sheet: &[u8], asked: &[u8], told: &[u8]) -> bool {
-    if asked.len() == 0 {
-        return false;
-    }
-    if 9 < asked.len() {
-        return false;
-    }
-    if told.len() < 4 {
-        return false;
-    }
-    let c = Case {
-        looks: two(told, 0),
-        allow: asked[0] == 1,
-        answer: told[2],
-        observed: told[3],
-        count: (asked.len() - 1) as u8,
-        nodes: nodes_of(&asked[1..]),
     };
-    plan_agrees(sheet, c, &told[4..])
+    is_below(asked, run.arena.records.count) && list_agrees(&mut run.arena, asked, told)
+}
+
+// What is asked, if the list has at most eight nodes.
+fn asked_of(allow: u8, list: &[u8]) -> Option<Asked> {
+    let mut nodes = [0; 8];
+    let front = nodes.get_mut(..list.len())?;
+    front.copy_from_slice(list);
+    let count = list.len() as u8;
+    Some(Asked {
+        list: Entries { nodes, count },
+        allow: allow == 1,
+    })
+}
+
+pub(crate) fn agrees(case: Case<'_>) -> bool {
+    let ([allow, list @ ..], [high, low, answer, observed, records @ ..]) = (case.asked, case.told)
+    else {
+        return false;
+    };
+    let Some(asked) = asked_of(*allow, list) else {
+        return false;
+    };
+    let told = Told {
+        looks: two(*high, *low),
+        answer: *answer,
+        observed: *observed,
+        records,
+    };
+    plan_agrees(case.sheet, asked, told)
 }

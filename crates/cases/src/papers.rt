@@ -1,56 +1,30 @@
 // A case of marking: the length of the output to lend and the paper are asked; what is told is how many bytes the output then
 // holds, and the line that is printed for the mark.
-ghost use Rattle.std.specs.Prelude.{length};
-
-use crate::frame::two;
-use crate::sheets::{FILLER, output};
-use marking::answer::Mark;
+use crate::frame::{Case, two};
+use crate::sheets::{FILLER, OUTPUT};
 use marking::line::put_mark;
 
 // How many bytes stand before the first that is as it was.
 fn written(out: &[u8]) -> usize {
-    let mut i: usize = 0;
-    while i < out.len() {
-        if out[i] == FILLER {
-            return i;
-        }
-        i += 1;
-    }
-    i
-}
-
-fn line_is(answer: Mark, told: &[u8]) -> bool {
-    let mut line: [u8; 6] = [0; 6];
-    let n = put_mark(&mut line, answer);
-    check::same(&line[..n], told)
+    let kept = out.iter().position(|byte| *byte == FILLER);
+    kept.unwrap_or(out.len())
 }
 
 // Makes the call, and says whether the count and the line are these.
 fn call_agrees(sheet: &[u8], paper: &[u8], count: usize, line: &[u8], out: &mut [u8]) -> bool {
     let answer = marking::mark(sheet, paper, out);
-    if written(out) != count {
-        return false;
-    }
-    line_is(answer, line)
+    let mut printed = [0; 6];
+    let n = put_mark(&mut printed, answer);
+    written(out) == count && &printed[..n] == line
 }
 
-pub(crate) fn agrees(sheet: &[u8], asked: &[u8], told: &[u8]) -> bool {
-    if asked.len() < 2 {
+pub(crate) fn agrees(case: Case<'_>) -> bool {
+    let ([a, b, paper @ ..], [c, d, line @ ..]) = (case.asked, case.told) else {
         return false;
-    }
-    if told.len() < 2 {
+    };
+    let mut out = OUTPUT;
+    let Some(lent) = out.get_mut(..two(*a, *b)) else {
         return false;
-    }
-    let lent = two(asked, 0);
-    if 20000 < lent {
-        return false;
-    }
-    let mut out = output();
-    call_agrees(
-        sheet,
-        &asked[2..],
-        two(told, 0),
-        &told[2..],
-        &mut out[..lent],
-    )
+    };
+    call_agrees(case.sheet, paper, two(*c, *d), line, lent)
 }

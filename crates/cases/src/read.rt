@@ -1,30 +1,17 @@
 // A case of reading: nothing else is asked; what is told is the refusal's number, or the counts of E and P lines.
-use crate::frame::wide;
-use reading::PlanRead;
+use crate::frame::Case;
+use reading::read_plan;
 
-// Is this the answer that is told?
-fn right(answer: PlanRead, told: &[u8]) -> bool {
-    match answer {
-        PlanRead::Taken(c) => {
-            if told.len() != 2 {
-                return false;
-            }
-            (c.exprs == wide(told[0])) & (c.steps == wide(told[1]))
+pub(crate) fn agrees(case: Case<'_>) -> bool {
+    let mut exprs = [0; 2048];
+    let mut steps = [0; 1024];
+    let answer = read_plan(case.sheet, &mut exprs, &mut steps);
+    let right = match (answer, case.told) {
+        (Ok(counts), &[exprs, steps]) => {
+            counts.exprs == usize::from(exprs) && counts.steps == usize::from(steps)
         }
-        PlanRead::Refused(k) => {
-            if told.len() != 1 {
-                return false;
-            }
-            k == told[0]
-        }
-    }
-}
-
-pub(crate) fn agrees(sheet: &[u8], asked: &[u8], told: &[u8]) -> bool {
-    if asked.len() != 0 {
-        return false;
-    }
-    let mut exprs: [u8; 2048] = [0; 2048];
-    let mut steps: [u8; 1024] = [0; 1024];
-    right(reading::read_plan(sheet, &mut exprs, &mut steps), told)
+        (Err(refusal), &[number]) => u8::from(refusal) == number,
+        _ => false,
+    };
+    right && case.asked.is_empty()
 }

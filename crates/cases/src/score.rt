@@ -1,49 +1,44 @@
 // How many cases of a folder agree.
 ghost use Rattle.std.specs.Prelude.{◌≡◌, ◌+◌, ◌<◌, ◌≤◌};
 
-use std::io;
+use std::fmt;
+use std::fmt::{Display, Formatter, Write};
 
 // How many cases there are, how many of them agree, and the first that does not, counted from 1.
 #[derive(Clone, Copy)]
 pub struct Score {
     pub all: usize,
     pub agree: usize,
-    pub first: usize,
+    pub first: Option<usize>,
+    ghost among_all: { agree ≤ all },
 }
 
-pub fn counted(s: Score, good: bool) -> Score
-    requires { (s.all < 100000) × (s.agree ≤ s.all) }
-    ensures { (result.all ≡ s.all + 1) × (result.agree ≤ result.all) }
-{
-    let all = s.all + 1;
-    if good {
-        return Score {
-            all,
-            agree: s.agree + 1,
-            first: s.first,
-        };
-    }
-    if s.agree < s.all {
-        return Score {
-            all,
-            agree: s.agree,
-            first: s.first,
-        };
-    }
-    Score {
-        all,
-        agree: s.agree,
-        first: all,
+impl Score {
+    pub const NONE: Score = Score {
+        all: 0,
+        agree: 0,
+        first: None,
+    };
+
+    pub fn count(&mut self, agrees: bool)
+        ensures { self.old.all < usize.MAX → self.new.all ≡ self.old.all + 1 }
+    {
+        self.all = self.all.saturating_add(1);
+        if agrees {
+            self.agree = self.agree.saturating_add(1);
+        } else {
+            self.first = self.first.or(Some(self.all));
+        }
     }
 }
 
-pub(crate) fn report(rt: &impl Print, name: &str, s: Score) -> io::Result<()> {
-    let all = s.all;
-    let agree = s.agree;
-    println!(rt; "{name}: {agree} of {all} agree")?;
-    if agree != all {
-        let first = s.first;
-        println!(rt; "the first that differs is {first}")?;
+impl Display for Score {
+    fn fmt<W: Write>(&self, f: &mut Formatter<W>) -> fmt::Result {
+        let Score { all, agree, first } = *self;
+        write!(f, "{agree} of {all} agree")?;
+        if let Some(first) = first {
+            write!(f, "\nthe first that differs is {first}")?;
+        }
+        Ok(())
     }
-    Ok(())
 }

@@ -9,10 +9,10 @@ use mathlib.Core.Bool.{Bool, true, false, ◌&&◌, not}
 use mathlib.Core.List.{List, [], ◌∷◌, Memᴰ}
 use lib.Dec.{T, eqb, leb, leb→le, nltb→le}
 use lib.ListN.{length, length-append, length-drop}
-use Rattle.plan.specs.declared.answer.Answer.{Answer}
 use Rattle.plan.specs.declared.ir.IR.{IR}
 use Rattle.plan.specs.Kinds.{same_ir}
 use Rattle.plan.specs.Lists.{all?, sum, times, empty?}
+use Rattle.plan.specs.declared.answer.Finished.{Finished}
 use Rattle.plan.specs.Sheet.{Step, no_step, step_at, in_step_table, Sheet, Outcome, refused, done, ◌then◌, refuse◌when◌else◌, read}
 use Rattle.plan.specs.Faults.{named, checked}
 use Rattle.plan.specs.Graph.{graph, sinks, is_cache}
@@ -118,16 +118,16 @@ module _ (s output : List ℕ) where
   comes_to o e = ap (called output) e
 
   -- the answer to a sheet whose condition holds
-  alone : (n : ℕ) → TurnedBack s output n → (finish s output).answer ≡ Answer.Refused n
+  alone : (n : ℕ) → TurnedBack s output n → (finish s output).answer ≡ refused n
   unfolding called
   alone n c = ap (λ (x : Called). x.answer) (comes_to (refused n) (comes_back s output n c))
 
   exclude : (m n : ℕ) → TurnedBack s output m → TurnedBack s output n → m ≡ n
   exclude m n c d = ap answer_number (sym (alone m c) ∙ alone n d)
 
-  is_refusal : Answer → ℕ
-  is_refusal (Answer.Finished f) = 0
-  is_refusal (Answer.Refused n) = 1
+  is_refusal : Outcome Finished → ℕ
+  is_refusal (done f) = 0
+  is_refusal (refused n) = 1
 
   finished_none : FinishedCall s output → (n : ℕ) → ¬ TurnedBack s output n
   unfolding is_refusal

@@ -2,8 +2,7 @@
 -- (plan/specs/Conditions).
 use Rattle.std.specs.Prelude.{◌≡◌, ◌⊎◌, ℕ, ◌≤◌, length, drop}
 use mathlib.Core.List.{List, ◌++◌, Memᴰ}
-use Rattle.plan.specs.declared.answer.Answer.{Answer}
-use Rattle.plan.specs.Sheet.{done}
+use Rattle.plan.specs.Sheet.{refused, done}
 use Rattle.plan.specs.Visit.{Run}
 use Rattle.plan.specs.Text.{printed}
 use Rattle.plan.specs.Finished.{run, finish, finished_answer}
@@ -13,7 +12,7 @@ use Rattle.plan.specs.Conditions.{refusal_numbers, TurnedBack}
 pub record FinishedCall (s output : List ℕ) : Type 0 where
   pub whole : Run
   pub runs : run s ≡ done whole
-  pub answer : (finish s output).answer ≡ Answer.Finished (finished_answer whole)
+  pub answer : (finish s output).answer ≡ done (finished_answer whole)
   pub bytes : (finish s output).output ≡ printed whole ++ drop (length (printed whole)) output
   -- it has a G line
   pub has_edge : 1 ≤ length whole.edges
@@ -23,14 +22,14 @@ pub record RefusedCall (s output : List ℕ) : Type 0 where
   pub number : ℕ
   pub listed : Memᴰ number refusal_numbers
   pub condition : TurnedBack s output number
-  pub answer : (finish s output).answer ≡ Answer.Refused number
+  pub answer : (finish s output).answer ≡ refused number
   pub bytes : (finish s output).output ≡ output
 
 pub record Demand1 (s output : List ℕ) : Type 0 where
   -- what is not finished is turned back, under a condition
   pub either : FinishedCall s output ⊎ RefusedCall s output
   -- a number is given on its condition alone
-  pub alone : (n : ℕ) → TurnedBack s output n → (finish s output).answer ≡ Answer.Refused n
+  pub alone : (n : ℕ) → TurnedBack s output n → (finish s output).answer ≡ refused n
   -- so the conditions of two numbers never hold together, and none holds of a finished sheet
   pub exclude : (m n : ℕ) → TurnedBack s output m → TurnedBack s output n → m ≡ n
   pub finished_none : FinishedCall s output → (n : ℕ) → ¬ TurnedBack s output n

@@ -1,18 +1,16 @@
 -- Laws of the call: each way through it, and what follows of its answer and of the bytes at exit.
-use mathlib.Core.Path.{◌≡◌, refl, sym, ap, ap₂, ◌∙◌, subst}
+use mathlib.Core.Path.{◌≡◌, sym, ap, ◌∙◌, subst}
 use mathlib.Core.Logic.{◌⊎◌, inl, inr}
 use Prim.Native.Nat.{ℕ, ◌≤◌, ◌<◌}
 use native.Mathlib.Omega.{arith}
 use mathlib.Core.List.{List, [], ◌∷◌, ◌++◌}
-use lib.ListN.{length, take, drop, length-append, length-take}
+use lib.ListN.{length, take, drop, length-append}
 use lib.Seq.{take-append_seam, take-append-le, drop-append_seam}
 use borrow.Author.Tests.{lt-ltb, le-ltb}
-use Rattle.plan.specs.declared.answer.Answer.{Answer}
+use Rattle.plan.specs.declared.answer.Finished.{Finished}
 use Rattle.plan.specs.Finished.{Called, called, run, finish, finished_answer, answer_length}
 use Rattle.plan.specs.Lists.{concat_map}
 use Rattle.plan.specs.Sheet.{Sheet, Outcome, refused, done, ◌then◌, refuse◌when◌else◌}
-use Rattle.storage.specs.Stored.{stored_steps}
-use Rattle.storage.proofs.Laws.{length_steps}
 use Rattle.plan.specs.Text.{line, edge_line, exprs_block, steps_block, edges_block, tally_line, printed, blocks, joined, end_of}
 use Rattle.plan.specs.Visit.{Run}
 use Rattle.plan.specs.Walks.{down, up, simplify_and_fetch_orderings}
@@ -23,23 +21,14 @@ use Rattle.claims.proofs.Demand1.{demand_1, run_printed}
 use Rattle.claims.proofs.Demand3.{demand_3}
 use Rattle.claims.proofs.Ends.{walks_alone}
 use Rattle.plan.proofs.Outcomes.{same_value}
-use Rattle.claims.specs.Plan as claims_plan
-use Rattle.claims.proofs.Plans as plans
 use Rattle.claims.proofs.Taken.{well_formed}
-use Rattle.reading.specs.Held.{sheet}
-use Rattle.reading.specs.Plan.{plan_of, PlanIs}
-use Rattle.reading.specs.declared.Counts.{Counts}
-use Rattle.reading.specs.declared.PlanRead.{PlanRead}
-use Rattle.reading.specs.declared.PlanRead.TheVariants.{Taken, Refused}
-use Rattle.reading.proofs.Accepted.{ReadPlan}
-use Rattle.ir_graph.specs.Built.{Built}
-use Rattle.ir_graph.specs.declared.ir_graph.Graph.{Graph}
-use Rattle.engine.specs.Call.{call, PlanStored, GraphMade}
+use Rattle.reading.specs.Plan.{plan_of}
+use Rattle.engine.specs.Call.{call}
 use Rattle.engine.specs.Demand3.{Stands, Demand3Kept}
 
 -- Each way through the call ------------------------------------------------------------------------------------------------------
 
-pub short_call : (s output : List ℕ) → length output < 16384 → call (Answer.Refused 1) output ≡ finish s output
+pub short_call : (s output : List ℕ) → length output < 16384 → call (refused 1) output ≡ finish s output
 unfolding finish called refuse◌when◌else◌
 short_call s output h = rw (lt-ltb (length output) 16384 h)
 
@@ -48,52 +37,21 @@ module _ (s output : List ℕ) (room : 16384 ≤ length output) where
   unfolding finish run plan_of refuse◌when◌else◌
   long_call o e = rw (le-ltb (length output) 16384 room, e)
 
-  pub turned_back : (es ps : List ℕ) (r : PlanRead) (k : ℕ) → PlanIs (plan_of s) es ps r → r ≡ Refused k → call (Answer.Refused k) output ≡ finish s output
+  -- a sheet that reading turns back, and one that is read
+  pub turned_back : (k : ℕ) → plan_of s ≡ refused k → call (refused k) output ≡ finish s output
   unfolding called ◌then◌
-  turned_back es ps r k l e = by (plan_of s) refl l
-    where
-      which : PlanRead → ℕ × ℕ
-      which (Taken c) = (1, 0)
-      which (Refused j) = (0, j)
+  turned_back k e = sym (long_call (refused k) e)
 
-      by : (o : Outcome Sheet) → plan_of s ≡ o → PlanIs o es ps r → call (Answer.Refused k) output ≡ finish s output
-      by (refused j) p i =
-          ap (λ (x : ℕ). call (Answer.Refused x) output) (ap (λ x. (which x).1) (sym e ∙ i)) ∙ sym (long_call (refused j) p)
-      by (done sh) p i = let z : ◌≡◌ {A = ℕ} 0 1 = ap (λ x. (which x).0) (sym e ∙ i.answer) in absurd (omega arith)
+  pub taken_call : (sh : Sheet) → plan_of s ≡ done sh → (r : Outcome Finished) (exit : List ℕ)
+      → call r exit ≡ called output (simplify_and_fetch_orderings sh) → call r exit ≡ finish s output
+  unfolding ◌then◌
+  taken_call sh p r exit e = e ∙ sym (long_call (done sh) p)
 
-  pub taken_call : (es ps : List ℕ) (c : Counts) → ReadPlan s es ps c → (r : Answer) (exit : List ℕ)
-      → call r exit ≡ called output (simplify_and_fetch_orderings (sheet es c.exprs ps c.steps)) → call r exit ≡ finish s output
-  unfolding plan_of ◌then◌
-  taken_call es ps c k r exit e =
-      e ∙ ap₂ (λ x y. called output (simplify_and_fetch_orderings (record { exprs = x; steps = y }))) k.exprs k.steps
-      ∙ sym (long_call (done k.sheet) k.accepted)
+-- What reading hands on ----------------------------------------------------------------------------------------------------------
 
--- What the stages hand on --------------------------------------------------------------------------------------------------------
-
-pub plan_stored : (s es ps : List ℕ) (c : Counts) → ReadPlan s es ps c → PlanStored es c.exprs ps c.steps
-plan_stored s es ps c k =
-    record {
-      exprs_held = k.exprs_held;
-      steps_held = k.steps_held;
-      formed =
-          subst WellFormed (sym (ap₂ (λ x y. record { exprs = x; steps = y }) k.exprs k.steps))
-          (well_formed s k.sheet k.accepted);
-    }
-
-module _ (es : List ℕ) (m : ℕ) (ps : List ℕ) (n : ℕ) (k : PlanStored es m ps n) where
-  pub steps_plan : claims_plan.Plan (stored_steps ps n)
-  steps_plan = plans.plan_of (sheet es m ps n) k.formed
-
-  pub graph_made : (places ends edges : List ℕ) (g : Graph) → Built (stored_steps ps n) places ends edges g
-      → GraphMade (stored_steps ps n) (take g.places places) ends edges (record { steps = n; edges = g.edges })
-  graph_made places ends edges g b =
-      record {
-        places_are = b.places_are;
-        edges_are = b.edges_are;
-        few_places = omega (arith, length-take g.places places, b.few_places);
-        few_edges = b.few_edges;
-        rows = λ m h. b.in_rows m (omega (arith, h, length_steps ps n));
-      }
+pub accepted_formed : (s : List ℕ) (sh : Sheet) → plan_of s ≡ done sh → WellFormed sh
+unfolding plan_of
+accepted_formed s sh p = well_formed s sh p
 
 -- What follows of the answer -----------------------------------------------------------------------------------------------------
 
@@ -155,7 +113,7 @@ module _ (s entry : List ℕ) (r : Run) (runs : run s ≡ done r) where
             ∙ sym (ap (λ (x : Run). line 84 (length x.removed ∷ x.tally.visits ∷ x.tally.looks ∷ [])) same_run);
       }
 
-module _ (s entry exit : List ℕ) (r : Answer) (e : call r exit ≡ finish s entry) where
+module _ (s entry exit : List ℕ) (r : Outcome Finished) (e : call r exit ≡ finish s entry) where
   kept : Demand3Kept s exit r × (answer_length r ≤ length entry)
   unfolding finished_answer end_of blocks joined
   kept = by (demand_1 s entry).either
@@ -171,7 +129,7 @@ module _ (s entry exit : List ℕ) (r : Answer) (e : call r exit ≡ finish s en
           let is : exit ≡ printed k.whole ++ behind s entry k.whole k.runs = ap (λ (x : Called). x.output) e ∙ k.bytes in
           let few : length (printed k.whole) ≤ length entry =
           omega (arith, ap length k.bytes, d.size, length-append (printed k.whole) (drop (length (printed k.whole)) entry)) in
-          subst (λ (x : Answer). Demand3Kept s exit x × (answer_length x ≤ length entry)) (sym (answer ∙ k.answer)) (
+          subst (λ (x : Outcome Finished). Demand3Kept s exit x × (answer_length x ≤ length entry)) (sym (answer ∙ k.answer)) (
             record {
               stands = subst (λ (l : List ℕ). Stands s l (finished_answer k.whole)) (sym is) (stands s entry k.whole k.runs);
               looks_down = (demand_3 s).looks_down;
@@ -180,7 +138,7 @@ module _ (s entry exit : List ℕ) (r : Answer) (e : call r exit ≡ finish s en
             few,
           )
       by (inr k) =
-          subst (λ (x : Answer). Demand3Kept s exit x × (answer_length x ≤ length entry)) (sym (answer ∙ k.answer))
+          subst (λ (x : Outcome Finished). Demand3Kept s exit x × (answer_length x ≤ length entry)) (sym (answer ∙ k.answer))
           (record { stands = tt; looks_down = (demand_3 s).looks_down; looks_up = (demand_3 s).looks_up }, omega arith)
 
   -- all that the call promises

@@ -1,9 +1,8 @@
 -- Demand 3, of a call: the bytes s that are lent, its answer, and the bytes that stand in the output at exit.
 use Rattle.std.specs.Prelude.{◌≡◌, ℕ, List, [], ◌∷◌, length, take, drop}
-use Rattle.plan.specs.declared.answer.Answer.{Answer}
 use Rattle.plan.specs.declared.answer.Finished.{Finished}
 use Rattle.plan.specs.Lists.{concat_map}
-use Rattle.plan.specs.Sheet.{Sheet, done}
+use Rattle.plan.specs.Sheet.{Sheet, Outcome, refused, done}
 use Rattle.plan.specs.Text.{line, edge_line}
 use Rattle.plan.specs.Visit.{Run}
 use Rattle.plan.specs.Walks.{down}
@@ -23,11 +22,11 @@ pub record Stands (s exit : List ℕ) (f : Finished) : Type 0 where
       drop f.edges (take f.length exit)
       ≡ line 84 (length run.whole.removed ∷ run.whole.tally.visits ∷ run.whole.tally.looks ∷ [])
 
-abbrev pub StandsIfFinished : List ℕ → List ℕ → Answer → Type 0
-StandsIfFinished s exit (Answer.Finished f) = Stands s exit f
-StandsIfFinished s exit (Answer.Refused k) = Unit
+abbrev pub StandsIfFinished : List ℕ → List ℕ → Outcome Finished → Type 0
+StandsIfFinished s exit (done f) = Stands s exit f
+StandsIfFinished s exit (refused k) = Unit
 
-pub record Demand3Kept (s exit : List ℕ) (r : Answer) : Type 0 where
+pub record Demand3Kept (s exit : List ℕ) (r : Outcome Finished) : Type 0 where
   pub stands : StandsIfFinished s exit r
   -- the looks of any visit of the run on s, one that ends in a refusal included
   pub looks_down : (sh : Sheet) → Accepted s sh → (n : ℕ) (x : Run) → Down sh n x → LooksBounded n x

@@ -20,10 +20,10 @@ use Rattle.plan.specs.Sheet.{Expr}
 use Rattle.plan.specs.Orders.{no_orders, add}
 use Rattle.plan.specs.Look.{NO_DEORDER, Eos, with_field, in_order, after, enter_struct, Look, look_along, look_along_children}
 use Rattle.expr.specs.declared.seen.Seen.{Seen}
-use Rattle.storage.specs.declared.exprs.ExprRecord.{ExprRecord}
+use Rattle.storage.specs.declared.entries.Entries.{Entries}
 use Rattle.expr.specs.Seen.{Sees}
 use Rattle.expr.specs.Tables.{answers}
-use Rattle.storage.specs.Exprs.{record_of, Shaped}
+use Rattle.storage.specs.Entries.{list_of, Shaped}
 use Rattle.expr.specs.Record.{slot, child_at}
 use Rattle.expr.specs.Contract.{along_from}
 use Rattle.expr.proofs.Records.{children_length, children_at}
@@ -59,7 +59,7 @@ turned_at (c ∷ cs) i h false q =
     let z : i + 1 ≡ suc i = omega arith in
     rw z (get_or-append cs (c ∷ []) 0 i k)
 
-module _ (e : ExprRecord) (shaped : Shaped e) (i : ℕ) (h : i < e.count) where
+module _ (e : Entries) (shaped : Shaped e) (i : ℕ) (h : i < e.count) where
   below : (t : Bool) (x : Bool) → eqb (i + 1) e.count ≡ x → (if t then (if x then 0 else i + 1) else i) < e.count
   below true true q = omega arith
   below true false q = let n : i + 1 ≡ e.count → ⊥ = eqb-false (i + 1) e.count q in omega arith
@@ -68,13 +68,13 @@ module _ (e : ExprRecord) (shaped : Shaped e) (i : ℕ) (h : i < e.count) where
   pub slot_below : (t : Bool) → slot t e.count i < e.count
   slot_below t = below t (eqb (i + 1) e.count) refl
 
-  in_turn : (t : Bool) → get_or (if t then first_last (record_of e).children else (record_of e).children) i 0 ≡ get_or (record_of e).children (slot t e.count i) 0
+  in_turn : (t : Bool) → get_or (if t then first_last (list_of e) else list_of e) i 0 ≡ get_or (list_of e) (slot t e.count i) 0
   in_turn true =
-      rw (children_length e shaped) at (turned_at (record_of e).children i (rw (children_length e shaped) h) (eqb (i + 1) (length (record_of e).children)) refl)
+      rw (children_length e shaped) at (turned_at (list_of e) i (rw (children_length e shaped) h) (eqb (i + 1) (length (list_of e))) refl)
   in_turn false = refl
 
   -- the child that the i-th look goes to
-  pub in_order_at : (b : Before) → get_or (in_order b (record_of e).children) i 0 ≡ child_at e b.turned i
+  pub in_order_at : (b : Before) → get_or (in_order b (list_of e)) i 0 ≡ child_at e b.turned i
   in_order_at b = in_turn b.turned ∙ children_at e shaped (slot b.turned e.count i) (slot_below b.turned)
 
 -- One child more -----------------------------------------------------------------------------------------------------------------

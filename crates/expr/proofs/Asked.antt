@@ -5,9 +5,11 @@ use native.Mathlib.Omega.{arith}
 use mathlib.Core.Bool.{Bool}
 use mathlib.Core.List.{List, Memᴰ}
 use lib.Dec.{T}
-use lib.ListN.{length, take, length-take}
+use lib.ListN.{length, length-take, length-replicate}
 use Rattle.plan.specs.Sheet.{Sheet, no_expr, expr_at}
 use Rattle.storage.specs.Stored.{stored_expr, stored_exprs, ExprFormed}
+use Rattle.storage.specs.declared.entries.Entries.{Entries}
+use Rattle.storage.specs.Entries.{list_of}
 use Rattle.storage.proofs.Laws.{table_at, length_exprs}
 use Rattle.claims.specs.WellFormed.{WellFormed}
 use Rattle.plan.proofs.Counts.{mem_at}
@@ -18,12 +20,12 @@ use Rattle.claims.proofs.Once.{formed_at_start}
 use Rattle.claims.proofs.ListFits.{list_fits}
 use Rattle.plan.specs.declared.tally.Tally.{Tally}
 use Rattle.expr.specs.declared.eos.Eos.{Eos}
-use Rattle.expr.specs.State.{State, state, eos_of, Falls, Based}
+use Rattle.storage.specs.Based.{Falls, Based}
+use Rattle.expr.specs.State.{State, state, eos_of}
 use Rattle.expr.specs.Projected.{no_entries, Started, ListAsks}
-use Rattle.expr.specs.Start.{OwnLines, NoneOff}
+use Rattle.storage.specs.Start.{OwnLines, NoneOff}
 use Rattle.expr.specs.Read.{ReadExprs}
 use Rattle.expr.proofs.Starts.{arena_at_start}
-use Rattle.expr.proofs.Starts as starts
 
 -- The stored records -------------------------------------------------------------------------------------------------------------
 
@@ -49,7 +51,7 @@ module _ (recs : List ℕ) (n : ℕ) (few : n ≤ 128) (room : n * 16 ≤ length
 
 -- A list before anything is changed ----------------------------------------------------------------------------------------------
 
-module _ (recs : List ℕ) (n : ℕ) (k : ReadExprs recs n) (room : n * 16 ≤ length recs) (line : List ℕ) (off : List Bool) (own : OwnLines line) (on : NoneOff off) (s : Eos) (started : Started s) where
+module _ (recs : List ℕ) (n : ℕ) (k : ReadExprs recs n) (line : List ℕ) (off : List Bool) (own : OwnLines line) (on : NoneOff off) (s : Eos) (started : Started s) where
   size : length k.sheet.exprs ≡ n
   size = subst (λ es. length es ≡ n) k.same (length_exprs recs n)
 
@@ -60,20 +62,19 @@ module _ (recs : List ℕ) (n : ℕ) (k : ReadExprs recs n) (room : n * 16 ≤ l
   arena tally = rw (started.is tally recs n line off) (arena_at_start recs n k.few line off own on ∙ k.same)
 
   -- of any records, at most eight
-  pub asks_at_start : (nodes : List ℕ) (count : ℕ) (allow : Bool) → count ≤ 8 → length nodes ≡ 8 → Falls n (take count nodes)
-      → ListAsks recs n start nodes count allow
-  asks_at_start nodes count allow short eight falls =
+  pub asks_at_start : (list : Entries) (allow : Bool) → list.count ≤ 8 → length list.nodes ≡ 8 → Falls n (list_of list)
+      → ListAsks recs n start list allow
+  asks_at_start list allow short eight falls =
       let none : Tally = record { visits = 0; looks = 0 } in
-      let there : (q : ℕ) → Memᴰ q (take count nodes) → q < length k.sheet.exprs =
-      λ q m. let (i, h, j) = place_of (take count nodes) 0 q m in rw size (subst (λ c. c < n) j (falls.child i h)) in
+      let there : (q : ℕ) → Memᴰ q (list_of list) → q < length k.sheet.exprs =
+      λ q m. let (i, h, j) = place_of (list_of list) 0 q m in rw size (subst (λ c. c < n) j (falls.child i h)) in
       record {
-        based = based_of_sheet recs n k.few room k.each k.sheet k.well_formed k.same;
-        formed = starts.formed_at_start recs n k.few line off own on s;
+        cached = length-replicate {A = ℕ} 128 0;
         few = short;
         room = eight;
         falls = falls;
         tally = none;
         fits =
-            list_fits k.sheet k.well_formed (take count nodes) allow (eos_of none recs n start) (arena none)
+            list_fits k.sheet k.well_formed (list_of list) allow (eos_of none recs n start) (arena none)
             (rw (started.is none recs n line off) (omega arith)) (rw size k.few) (simp length-take (omega (arith, short, eight))) there;
       }

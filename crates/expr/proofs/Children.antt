@@ -24,10 +24,10 @@ use Rattle.expr.specs.Eos as own
 use Rattle.expr.specs.Seen.{none_seen, Adds}
 use Rattle.storage.specs.Exprs.{record_of}
 use Rattle.expr.specs.Record.{slot, child_at}
-use Rattle.expr.specs.State.{State, eos_of, Formed}
+use Rattle.expr.specs.State.{State, eos_of}
 use Rattle.expr.specs.Contract.{walked, looked_of, LookAsks, LookGives, along_from, Begun, reach, Reached, AlongAsks, IsWalk, AlongGives}
 use Rattle.expr.proofs.Records.{children_length, children_at, above_each}
-use Rattle.expr.proofs.States.{kept_trans, formed_kept, owning, kept_owning, eos_fielded, eos_field, same_field, begun_none, begun_next}
+use Rattle.expr.proofs.States.{Formed, Holds, kept_trans, formed_kept, owning, kept_owning, eos_fielded, eos_field, same_field, begun_none, begun_next}
 use Rattle.expr.proofs.Laws.{up_from, up_look}
 use Rattle.expr.proofs.Along.{length_in_order, slot_below, in_order_at, entered, children_from, along_more, along_end, along_none}
 
@@ -50,14 +50,14 @@ module _ (recs : List ℕ) (n : ℕ) (s : State) (e : ExprRecord) (b : Before) w
         is = λ tally f h. children_from (look f) E b (eos_of tally recs n s);
       }
 
-  module _ (r : AlongAsks recs n s e b) where
-    queue_length : length (in_order b E.children) ≡ e.count
-    queue_length = length_in_order b E.children ∙ children_length e r.shaped
+  module _ (holds : Holds recs n s) (r : AlongAsks recs n s e b) where
+    queue_length : length (in_order b E.children) ≡ e.children.count
+    queue_length = length_in_order b E.children ∙ children_length e.children r.shaped
 
     module _ (t : State) (x : Seen) where
       -- after the last one
-      ends : (tally : Tally) (f i : ℕ) → e.count ≤ i → (os : List ObservableOrders) → Begun (reach e) i os x
-          → IsWalk tally recs n e.count (walked t x) (along_from (look f) E b i os x.acc (eos_of tally recs n t))
+      ends : (tally : Tally) (f i : ℕ) → e.children.count ≤ i → (os : List ObservableOrders) → Begun (reach e) i os x
+          → IsWalk tally recs n e.children.count (walked t x) (along_from (look f) E b i os x.acc (eos_of tally recs n t))
       ends tally f zero h os begun =
           let none_there : in_order b E.children ≡ [] = none_of (in_order b E.children) (omega (arith, queue_length, h)) in
           rw (along_none (look f) E b os x.acc (eos_of tally recs n t) none_there)
@@ -67,7 +67,7 @@ module _ (recs : List ℕ) (n : ℕ) (s : State) (e : ExprRecord) (b : Before) w
           (record { sees = begun.sees; acc = refl; field = t.own.field; state = sym (same_field tally recs n t); same = λ more. refl })
 
       module _ (i : ℕ) (g : Reached recs n s e b t x i) where
-        pub along_gives : e.count ≤ i → AlongGives recs n s e b (walked t x)
+        pub along_gives : e.children.count ≤ i → AlongGives recs n s e b (walked t x)
         along_gives h =
             record {
               is = λ tally f k. rw (g.is tally f k) (ends tally f i h g.os g.begun);
@@ -77,21 +77,21 @@ module _ (recs : List ℕ) (n : ℕ) (s : State) (e : ExprRecord) (b : Before) w
             }
 
         -- the i-th
-        module _ (more : i < e.count) (c : ℕ) (m : Bool) (c_is : c ≡ child_at e b.turned i) (m_is : m ≡ (if eqb i 0 then b.first else NO_DEORDER)) where
+        module _ (more : i < e.children.count) (c : ℕ) (m : Bool) (c_is : c ≡ child_at e.children b.turned i) (m_is : m ≡ (if eqb i 0 then b.first else NO_DEORDER)) where
           abbrev T : Tally → plan.Eos
           T tally = eos_of tally recs n t
 
           c_at : get_or (in_order b E.children) i 0 ≡ c
-          c_at = in_order_at e r.shaped i more b ∙ sym c_is
+          c_at = in_order_at e.children r.shaped i more b ∙ sym c_is
 
           c_falls : c < reach e
           c_falls =
-              let k : slot b.turned e.count i < e.count = slot_below e r.shaped i more b.turned in
-              rw (c_is, ← children_at e r.shaped (slot b.turned e.count i) k)
-              (above_each E.children (slot b.turned e.count i) (rw (children_length e r.shaped) k))
+              let k : slot b.turned e.children.count i < e.children.count = slot_below e.children r.shaped i more b.turned in
+              rw (c_is, ← children_at e.children r.shaped (slot b.turned e.children.count i) k)
+              (above_each E.children (slot b.turned e.children.count i) (rw (children_length e.children r.shaped) k))
 
           t_formed : Formed n t
-          t_formed = formed_kept r.formed g.kept
+          t_formed = formed_kept holds.formed g.kept
 
           c_within : c < n
           c_within = lt_of_lt_of_le c_falls r.within
@@ -111,8 +111,7 @@ module _ (recs : List ℕ) (n : ℕ) (s : State) (e : ExprRecord) (b : Before) w
           pub child_asks : LookAsks recs n t c m
           child_asks =
               record {
-                based = r.based;
-                formed = t_formed;
+                cached = t_formed.sized.cache;
                 within = c_within;
                 tally = r.tally;
                 fuel = r.fuel;

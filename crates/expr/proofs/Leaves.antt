@@ -3,16 +3,16 @@ use Rattle.std.specs.Prelude.{if◌then◌else◌}
 use mathlib.Core.Path.{◌≡◌, refl, sym, ap, ◌∙◌, subst}
 use Prim.Native.Nat.{ℕ, zero, suc, ◌+◌, ◌*◌, ◌<◌}
 use native.Mathlib.Omega.{arith}
-use mathlib.Core.Bool.{Bool, true, false, ◌&&◌, and-false, or-false}
+use mathlib.Core.Bool.{Bool, true, false, and-false, or-false}
 use mathlib.Core.List.{List, []}
 use mathlib.Core.Option.{none}
-use lib.Dec.{eqb, ltb}
+use lib.Dec.{eqb}
 use lib.ListN.{get_or}
-use borrow.Author.Tests.{eqb-true, ltb-true}
 use Rattle.plan.specs.declared.aexpr.AExpr.{AExpr}
 use Rattle.plan.specs.declared.orders.ObservableOrders.{ObservableOrders}
 use Rattle.plan.specs.declared.tally.Tally.{Tally}
-use Rattle.plan.specs.Kinds.{aexpr, same_aexpr}
+use Rattle.plan.specs.Kinds.{aexpr, aexpr_number, same_aexpr}
+use Rattle.plan.proofs.KindNumbers.{aexpr_back}
 use Rattle.plan.specs.Sheet.{Expr}
 use Rattle.plan.specs.Orders.{∅, COLUMN, INDEPENDENT, ◌∪◌, no_orders}
 use Rattle.plan.specs.Look.{Eos, one_look, before, in_order, check_return_cached, is_replaced, after, plain, enter_struct, look_ended, look}
@@ -21,12 +21,11 @@ use Rattle.storage.specs.Exprs.{held}
 use Rattle.expr.specs.State.{State, eos_of}
 use Rattle.expr.specs.Tables.{Leaf}
 use Rattle.expr.specs.Contract.{looked_of, LookAsks, LookGives, Answers}
-use Rattle.plan.proofs.Booleans.{and_left, and_right}
 use Rattle.storage.proofs.ExprLaws.{stored}
-use Rattle.expr.proofs.States.{counted, answering, kept_owning, eos_field, eos_counted, eos_answering, eos_at}
+use Rattle.expr.proofs.States.{Holds, counted, answering, kept_owning, eos_field, eos_counted, eos_answering, eos_at}
 use Rattle.expr.proofs.Laws.{finish, after_answers, finish_done, look_rest}
 use Rattle.expr.proofs.Along.{none_in_order, children_from, along_none}
-use Rattle.expr.proofs.Ways.{held_children, held_kind, line_record}
+use Rattle.expr.proofs.Ways.{held_children, held_kind, line_below}
 
 -- The kinds ----------------------------------------------------------------------------------------------------------------------
 
@@ -37,35 +36,38 @@ record LeafKind (e : Expr) (allow : Bool) (k : AExpr) : Type 0 where
   pub sort_by : same_aexpr k AExpr.SortBy ≡ false
   pub implode : same_aexpr k AExpr.Implode ≡ false
 
-leaf_kind : (e : Expr) (allow : Bool) (k : ℕ) → k < 5 → LeafKind e allow (aexpr k)
+leaf_number : (e : Expr) (allow : Bool) (k : ℕ) → k < 5 → LeafKind e allow (aexpr k)
 unfolding before
-leaf_kind e allow zero h = record { checks = refl; sort = refl; sort_by = refl; implode = refl }
-leaf_kind e allow (suc zero) h = record { checks = refl; sort = refl; sort_by = refl; implode = refl }
-leaf_kind e allow (suc (suc zero)) h = record { checks = refl; sort = refl; sort_by = refl; implode = refl }
-leaf_kind e allow (suc (suc (suc zero))) h = record { checks = refl; sort = refl; sort_by = refl; implode = refl }
-leaf_kind e allow (suc (suc (suc (suc zero)))) h = record { checks = refl; sort = refl; sort_by = refl; implode = refl }
-leaf_kind e allow (suc (suc (suc (suc (suc k))))) h = absurd (omega arith)
+leaf_number e allow zero h = record { checks = refl; sort = refl; sort_by = refl; implode = refl }
+leaf_number e allow (suc zero) h = record { checks = refl; sort = refl; sort_by = refl; implode = refl }
+leaf_number e allow (suc (suc zero)) h = record { checks = refl; sort = refl; sort_by = refl; implode = refl }
+leaf_number e allow (suc (suc (suc zero))) h = record { checks = refl; sort = refl; sort_by = refl; implode = refl }
+leaf_number e allow (suc (suc (suc (suc zero)))) h = record { checks = refl; sort = refl; sort_by = refl; implode = refl }
+leaf_number e allow (suc (suc (suc (suc (suc k))))) h = absurd (omega arith)
+
+leaf_kind : (e : Expr) (allow : Bool) (k : AExpr) → aexpr_number k < 5 → LeafKind e allow k
+leaf_kind e allow k h = subst (LeafKind e allow) (aexpr_back k) (leaf_number e allow (aexpr_number k) h)
 
 module _ (scalar : Bool) (field : ObservableOrders) where
-  pub leaf_column : Leaf 0 scalar field COLUMN
+  pub leaf_column : Leaf AExpr.Column scalar field COLUMN
   unfolding after
-  leaf_column = record { is = λ e allow h. refl }
+  leaf_column = record { first_five = omega arith; is = λ e allow h. refl }
 
-  pub leaf_literal : Leaf 1 scalar field (if scalar then ∅ else INDEPENDENT)
+  pub leaf_literal : Leaf AExpr.Literal scalar field (if scalar then ∅ else INDEPENDENT)
   unfolding after
-  leaf_literal = record { is = λ e allow h. rw h }
+  leaf_literal = record { first_five = omega arith; is = λ e allow h. rw h }
 
-  pub leaf_element : Leaf 2 scalar field INDEPENDENT
+  pub leaf_element : Leaf AExpr.Element scalar field INDEPENDENT
   unfolding after
-  leaf_element = record { is = λ e allow h. refl }
+  leaf_element = record { first_five = omega arith; is = λ e allow h. refl }
 
-  pub leaf_struct_field : Leaf 3 scalar field field
+  pub leaf_struct_field : Leaf AExpr.StructField scalar field field
   unfolding after
-  leaf_struct_field = record { is = λ e allow h. refl }
+  leaf_struct_field = record { first_five = omega arith; is = λ e allow h. refl }
 
-  pub leaf_len : Leaf 4 scalar field ∅
+  pub leaf_len : Leaf AExpr.Len scalar field ∅
   unfolding after
-  leaf_len = record { is = λ e allow h. refl }
+  leaf_len = record { first_five = omega arith; is = λ e allow h. refl }
 
 nothing_more : (o : ObservableOrders) → o ∪ ∅ ≡ o
 nothing_more o = rw (or-false o.column, or-false o.independent)
@@ -76,26 +78,23 @@ leaf_ended : (p : ℕ) (e : Expr) (o : ObservableOrders) (s : Eos) → same_aexp
 unfolding look_ended
 leaf_ended p e o s h = rw (h, nothing_more s.internally_observed)
 
--- The code's look at p, whose record has the number k for its kind ---------------------------------------------------------------
+-- The code's look at p, whose record is a leaf ---------------------------------------------------------------
 
 held_scalar : (recs : List ℕ) (l : ℕ) (off : Bool) → (held recs l off).scalar ≡ (stored_expr recs l).scalar
 unfolding held
 held_scalar recs l true = refl
 held_scalar recs l false = refl
 
-module _ (recs : List ℕ) (n : ℕ) (s : State) (p : ℕ) (allow : Bool) (r : LookAsks recs n s p allow) where
+module _ (recs : List ℕ) (n : ℕ) (s : State) (p : ℕ) (allow : Bool) (holds : Holds recs n s) (r : LookAsks recs n s p allow) where
   abbrev S : Tally → Eos
   S tally = eos_of tally recs n s
 
   abbrev l : ℕ
   l = get_or s.line p 0
 
-  module _ (leafy : (ltb (get_or recs (l * 16) 0) 5 && eqb (get_or recs (l * 16 + 12) 0) 0) ≡ true) where
-    abbrev k : ℕ
-    k = get_or recs (l * 16) 0
-
-    pub leaf_number : k < 5
-    leaf_number = ltb-true k 5 (and_left (ltb k 5) _ leafy)
+  module _ (childless : get_or recs (l * 16 + 12) 0 ≡ 0) where
+    abbrev k : AExpr
+    k = aexpr (get_or recs (l * 16) 0)
 
     module _ (o : ObservableOrders) (o_is : Leaf k (eqb (get_or recs (l * 16 + 1) 0) 1) s.own.field o) where
       abbrev leaf_expr : Expr
@@ -103,18 +102,17 @@ module _ (recs : List ℕ) (n : ℕ) (s : State) (p : ℕ) (allow : Bool) (r : L
 
       leaf_stored : stored_expr recs l
           ≡ record {
-            kind = aexpr k;
+            kind = k;
             scalar = eqb (get_or recs (l * 16 + 1) 0) 1;
             length_preserving = (stored_expr recs l).length_preserving;
             option = (stored_expr recs l).option;
             children = [];
           }
       leaf_stored =
-          let none_there : get_or recs (l * 16 + 12) 0 ≡ 0 = eqb-true (get_or recs (l * 16 + 12) 0) 0 (and_right (ltb k 5) _ leafy) in
-          let there = line_record recs n s p r.based r.formed r.within in
-          rw (stored recs l there.room there.formed, none_there)
+          let below = line_below recs n s p holds.based holds.formed r.within in
+          rw (stored recs l (omega (arith, below, holds.based.room)) (holds.based.formed l below), childless)
 
-      leaf_kind_is : leaf_expr.kind ≡ aexpr k
+      leaf_kind_is : leaf_expr.kind ≡ k
       leaf_kind_is = held_kind recs l (get_or s.off p false) ∙ ap (λ (x : Expr). x.kind) leaf_stored
 
       leaf_scalar : leaf_expr.scalar ≡ eqb (get_or recs (l * 16 + 1) 0) 1
@@ -124,7 +122,7 @@ module _ (recs : List ℕ) (n : ℕ) (s : State) (p : ℕ) (allow : Bool) (r : L
       leaf_children = held_children recs l (get_or s.off p false) ∙ ap (λ (x : Expr). x.children) leaf_stored
 
       K : LeafKind leaf_expr allow leaf_expr.kind
-      K = subst (LeafKind leaf_expr allow) (sym leaf_kind_is) (leaf_kind leaf_expr allow k leaf_number)
+      K = subst (LeafKind leaf_expr allow) (sym leaf_kind_is) (leaf_kind leaf_expr allow k o_is.first_five)
 
       module _ (tally : Tally) (f : ℕ) where
         abbrev D₀ : Answers

@@ -1,4 +1,5 @@
 -- What the code's list of projected expressions asks and gives, a law for each place in it.
+use Rattle.std.specs.Prelude.{Option, None}
 use Rattle.std.specs.Prelude.{if◌then◌else◌}
 use mathlib.Core.Path.{◌≡◌, refl, sym, ap, ◌∙◌, fun_ext}
 use Prim.Native.Nat.{ℕ, suc, ◌+◌, ◌<◌, ◌≤◌, ◌^◌}
@@ -7,7 +8,7 @@ use native.Mathlib.Omega.{arith}
 use mathlib.Core.Bool.{Bool, true, false, ◌&&◌}
 use mathlib.Core.List.{List, [], ◌∷◌, ◌++◌}
 use mathlib.Core.Option.{none}
-use lib.ListN.{length, get_or, take, drop, drop_of_length-le}
+use lib.ListN.{length, get_or, drop, drop_of_length-le}
 use lib.Seq.{drop-cons, length-take-le, get_or-take}
 use borrow.Author.Tests.{eqb-true}
 use Rattle.plan.specs.declared.orders.ExprOrderAcc.{ExprOrderAcc}
@@ -17,6 +18,8 @@ use Rattle.plan.specs.Orders.{∅, ◌∪◌, no_orders, add, single}
 use Rattle.plan.specs.Look.{NO_DEORDER, internal_observe, Look, look_along, look_again, look, simplify_projected_exprs}
 use Rattle.plan.specs.Look as plan
 use Rattle.storage.specs.Stored.{arena_of}
+use Rattle.storage.specs.declared.entries.Entries.{Entries}
+use Rattle.storage.specs.Entries.{list_of}
 use Rattle.plan.specs.Visit.{expr_order_simplifier}
 use Rattle.expr.specs.declared.eos.Eos.{Eos}
 use Rattle.expr.specs.declared.seen.Seen.{Seen}
@@ -24,19 +27,19 @@ use Rattle.expr.specs.Eos.{Own, own_of, no_looks}
 use Rattle.expr.specs.Eos as own
 use Rattle.expr.specs.Seen.{none_seen, Adds}
 use Rattle.expr.specs.Cache.{cache_of}
-use Rattle.expr.specs.State.{State, state, eos_of, Formed, Kept}
+use Rattle.expr.specs.State.{State, state, eos_of, Kept}
 use Rattle.expr.specs.Contract.{LookAsks, LookGives, Answers}
 use Rattle.expr.specs.Projected.{no_entries, Started, ListAsks, ListGives, ListReached}
 use Rattle.plan.proofs.Booleans.{and_left}
-use Rattle.expr.proofs.Starts.{all_same}
-use Rattle.expr.proofs.States.{kept_trans, formed_kept, owning, answering, kept_owning, length_eos, eos_answering, eos_observing, begun_none, begun_next}
+use Rattle.storage.proofs.Starts.{all_same}
+use Rattle.expr.proofs.States.{Formed, Holds, kept_trans, formed_kept, owning, answering, kept_owning, length_eos, eos_answering, eos_observing, begun_none, begun_next}
 use Rattle.expr.proofs.Laws.{up_along, up_look}
 
 -- The start of a visit -----------------------------------------------------------------------------------------------------------
 
 nothing_cached : cache_of no_entries ≡ (λ _. none)
 unfolding cache_of
-nothing_cached = fun_ext (λ q. rw (all_same {A = ℕ} 128 q 0))
+nothing_cached = fun_ext (λ q. rw (all_same {A = Option ObservableOrders} 128 q None))
 
 start_is : (s : Eos) → own_of s ≡ no_looks → (tally : Tally) (recs : List ℕ) (n : ℕ) (line : List ℕ) (off : List Bool)
     → eos_of tally recs n (state line off no_entries s) ≡ expr_order_simplifier (arena_of recs line off n) tally
@@ -74,9 +77,9 @@ along_no_more rec rest os x s h = rw h
 
 -- The code's list ----------------------------------------------------------------------------------------------------------------
 
-module _ (recs : List ℕ) (n : ℕ) (s : State) (nodes : List ℕ) (count : ℕ) (allow : Bool) where
+module _ (recs : List ℕ) (n : ℕ) (s : State) (list : Entries) (allow : Bool) where
   abbrev entries : List ℕ
-  entries = take count nodes
+  entries = list_of list
 
   abbrev S : Tally → plan.Eos
   S tally = eos_of tally recs n s
@@ -89,27 +92,27 @@ module _ (recs : List ℕ) (n : ℕ) (s : State) (nodes : List ℕ) (count : ℕ
   list_is tally = rw (length_eos tally recs n s)
 
   -- before the first entry
-  pub list_none : ListReached recs n s nodes count s none_seen 0
+  pub list_none : ListReached recs n s list s none_seen 0
   list_none = record { most = omega arith; os = []; begun = begun_none; kept = record { sized = λ z. z; lower = λ q. le_refl _ }; is = λ tally. refl }
 
-  module _ (r : ListAsks recs n s nodes count allow) where
+  module _ (holds : Holds recs n s) (r : ListAsks recs n s list allow) where
     D_fits : (D r.tally).2.tally.looks < 2 ^ 58
     D_fits = lt_of_le_of_lt (up_ended (look n) (up_look n) allow (D r.tally)) (rw (list_is r.tally) at r.fits)
 
-    length_list : length entries ≡ count
-    length_list = length-take-le count nodes (omega (arith, r.few, r.room))
+    length_list : length entries ≡ list.count
+    length_list = length-take-le list.count list.nodes (omega (arith, r.few, r.room))
 
-    module _ (t : State) (x : Seen) (i : ℕ) (g : ListReached recs n s nodes count t x i) where
+    module _ (t : State) (x : Seen) (i : ℕ) (g : ListReached recs n s list t x i) where
       t_formed : Formed n t
-      t_formed = formed_kept r.formed g.kept
+      t_formed = formed_kept holds.formed g.kept
 
       -- the i-th
-      module _ (more : i < count) where
+      module _ (more : i < list.count) where
         abbrev c : ℕ
-        c = get_or nodes i 0
+        c = get_or list.nodes i 0
 
         c_at : get_or entries i 0 ≡ c
-        c_at = get_or-take count nodes i 0 more
+        c_at = get_or-take list.count list.nodes i 0 more
 
         c_within : c < n
         c_within = rw c_at at (r.falls.child i (rw length_list more))
@@ -132,8 +135,7 @@ module _ (recs : List ℕ) (n : ℕ) (s : State) (nodes : List ℕ) (count : ℕ
         entry_asks =
             let y = R r.tally in
             record {
-              based = r.based;
-              formed = t_formed;
+              cached = t_formed.sized.cache;
               within = c_within;
               tally = r.tally;
               fuel = n;
@@ -146,7 +148,7 @@ module _ (recs : List ℕ) (n : ℕ) (s : State) (nodes : List ℕ) (count : ℕ
         pub few_entries : x.acc.num_ordered_inputs < 255
         few_entries = omega (arith, g.begun.most, more, r.few)
 
-        pub list_more : (u : State) → LookGives recs n t c false u → (o : ObservableOrders) → o ≡ u.own.answer → (next : Seen) → Adds x o c i next → ListReached recs n s nodes count u next (i + 1)
+        pub list_more : (u : State) → LookGives recs n t c false u → (o : ObservableOrders) → o ≡ u.own.answer → (next : Seen) → Adds x o c i next → ListReached recs n s list u next (i + 1)
         list_more u a o o_is next adds =
             let adds_u : Adds x u.own.answer c i next = rw o_is at adds in
             record {
@@ -158,7 +160,7 @@ module _ (recs : List ℕ) (n : ℕ) (s : State) (nodes : List ℕ) (count : ℕ
             }
 
       -- after the last one
-      module _ (over : count ≤ i) (so_far mixed observed : ObservableOrders) (w : Own)
+      module _ (over : list.count ≤ i) (so_far mixed observed : ObservableOrders) (w : Own)
           (so_far_is : so_far ≡ t.own.observed)
           (mixed_is : mixed ≡ (if x.acc.saw_mixed_inputs then x.acc.acc else ∅))
           (observed_is : observed ≡ so_far ∪ mixed)
@@ -191,15 +193,15 @@ module _ (recs : List ℕ) (n : ℕ) (s : State) (nodes : List ℕ) (count : ℕ
           look_is tally = ended_is tally ∙ rw twice
 
           t₁_formed : Formed n t₁
-          t₁_formed = formed_kept r.formed t₁_kept
+          t₁_formed = formed_kept holds.formed t₁_kept
 
           enough : get_or t₁.line node 0 < n
           enough = lt_of_le_of_lt (t₁_formed.below node near) near
 
           pub top_asks : LookAsks recs n t₁ node true
-          top_asks = record { based = r.based; formed = t₁_formed; within = near; tally = r.tally; fuel = n; enough = enough; fits = rw (look_is r.tally) at r.fits }
+          top_asks = record { cached = t₁_formed.sized.cache; within = near; tally = r.tally; fuel = n; enough = enough; fits = rw (look_is r.tally) at r.fits }
 
-          pub gives_top : (u : State) → LookGives recs n t₁ node true u → ListGives recs n s nodes count allow u
+          pub gives_top : (u : State) → LookGives recs n t₁ node true u → ListGives recs n s list allow u
           gives_top u m = record { is = λ tally. m.is tally n enough ∙ sym (look_is tally); kept = kept_trans t₁_kept m.kept }
 
         module _ (once : (single x.acc && allow) ≡ false) where
@@ -207,7 +209,7 @@ module _ (recs : List ℕ) (n : ℕ) (s : State) (nodes : List ℕ) (count : ℕ
           unfolding look_again
           not_again tally = rw once
 
-          pub gives_all : ListGives recs n s nodes count allow (answering x.acc.acc t₁)
+          pub gives_all : ListGives recs n s list allow (answering x.acc.acc t₁)
           gives_all =
               record {
                 is = λ tally. rw (eos_answering tally recs n t₁ x.acc.acc) (sym (ended_is tally ∙ not_again tally));

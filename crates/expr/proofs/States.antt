@@ -1,4 +1,5 @@
 -- Laws of the code's state: what its changes are to the definition's, and what they keep.
+use Rattle.std.specs.Prelude.{Option, None, Some}
 use Rattle.std.specs.Prelude.{if◌then◌else◌}
 use mathlib.Core.Path.{◌≡◌, refl, ap, ◌∙◌}
 use Prim.Native.Nat.{ℕ, ◌+◌, ◌<◌, ◌≤◌}
@@ -27,9 +28,12 @@ use Rattle.storage.specs.declared.exprs.ExprRecord.{ExprRecord}
 use Rattle.expr.specs.Eos.{Own}
 use Rattle.expr.specs.Eos as own
 use Rattle.expr.specs.Seen.{none_seen, Adds}
-use Rattle.expr.specs.Cache.{packed, cache_of}
+use Rattle.expr.specs.Cache.{cache_of}
 use Rattle.storage.specs.Exprs.{record_of, held}
-use Rattle.expr.specs.State.{State, eos_of, Formed, Kept}
+use Rattle.storage.specs.Based.{Based}
+use Rattle.storage.specs.declared.stored.Records.{Records}
+use Rattle.storage.specs.declared.stored.Lines.{Lines}
+use Rattle.expr.specs.State.{State, eos_of, Sized, Kept}
 use Rattle.expr.specs.Tables.{after_of}
 use Rattle.expr.specs.Contract.{looked_of, ended_by, Ended, Begun}
 use Rattle.expr.proofs.Answers.{sees_next}
@@ -40,8 +44,29 @@ use Rattle.expr.proofs.View.{arena_at, arena_copied, arena_off, cache_written}
 pub kept_trans : {s t r : State} → Kept s t → Kept t r → Kept s r
 kept_trans p q = record { sized = λ z. q.sized (p.sized z); lower = λ i. le_trans (q.lower i) (p.lower i) }
 
+-- a line holds its own record or a lower one
+pub record Formed (n : ℕ) (s : State) : Type 0 where
+  pub sized : Sized s
+  pub below : (q : ℕ) → q < n → get_or s.line q 0 ≤ q
+
 pub formed_kept : {n : ℕ} {s r : State} → Formed n s → Kept s r → Formed n r
 formed_kept f k = record { sized = k.sized f.sized; below = λ q h. le_trans (k.lower q) (f.below q h) }
+
+-- what the types say of the records and the lines, and the cache's length
+pub record Holds (recs : List ℕ) (n : ℕ) (s : State) : Type 0 where
+  pub based : Based recs n
+  pub formed : Formed n s
+
+pub holds : (records : Records) (lines : Lines) {cache : List (Option ObservableOrders)} {own : Own} → length cache ≡ 128
+    → Holds records.bytes records.count (record { line = lines.holds; off = lines.off; cache = cache; own = own })
+holds records lines cached =
+    record {
+      based = records.based;
+      formed = record {
+        sized = record { line = lines.sized; off = lines.off_sized; cache = cached };
+        below = λ q h. lines.below q (omega (arith, records.based.few));
+      };
+    }
 
 -- The changes of the code's state ------------------------------------------------------------------------------------------------
 
@@ -139,13 +164,12 @@ module _ (tally : Tally) (recs : List ℕ) (n : ℕ) (s : State) where
 
 module _ (s : State) (p : ℕ) (e : ExprRecord) (v : After) (field first : ObservableOrders) (within : p < 128) (off_size : length s.off ≡ 128)
     (cache_size : length s.cache ≡ 128)
-    (loses : Bool) (so_far observed answer : ObservableOrders) (byte entry : ℕ) (t : Own)
+    (loses : Bool) (so_far observed answer : ObservableOrders) (entry : Option ObservableOrders) (t : Own)
     (loses_is : loses ≡ (same_aexpr e.kind AExpr.Implode && yes? e.option && is_empty first))
     (so_far_is : so_far ≡ s.own.observed)
     (observed_is : observed ≡ so_far ∪ v.observes)
     (answer_is : answer ≡ s.own.answer)
-    (byte_is : byte ≡ packed answer)
-    (entry_is : entry ≡ (if v.caches then byte else get_or s.cache p 0))
+    (entry_is : entry ≡ (if v.caches then Some answer else get_or s.cache p None))
     (t_is : t ≡ own.with_field field (own.with_observed observed s.own)) where
   abbrev ends : State
   ends = record { line = s.line; off = set s.off p (get_or s.off p false || loses); cache = set s.cache p entry; own = t }
@@ -161,7 +185,6 @@ module _ (s : State) (p : ℕ) (e : ExprRecord) (v : After) (field first : Obser
         observed_is,
         so_far_is,
         entry_is,
-        byte_is,
         answer_is,
         arena_off recs n s.line s.off p h loses (rw off_size within),
         cache_written s.cache p (rw cache_size within) s.own.answer v.caches,

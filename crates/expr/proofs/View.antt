@@ -4,7 +4,7 @@ use mathlib.Core.Path.{◌≡◌, refl, sym, ◌∙◌, fun_ext}
 use Prim.Native.Nat.{ℕ, ◌<◌}
 use mathlib.Core.Bool.{Bool, true, false, ◌||◌, or-false}
 use mathlib.Core.List.{List}
-use mathlib.Core.Option.{some}
+use Rattle.std.specs.Prelude.{Option, None, Some}
 use lib.Dec.{eqb}
 use lib.ListN.{length, get_or, set, length-set}
 use lib.Seq.{ext_get_or, get_or-set_same, get_or-set_other, set-get_or}
@@ -14,7 +14,7 @@ use Rattle.plan.specs.Sheet.{no_expr, expr_at}
 use Rattle.plan.specs.Look.{with_entry, switched_off}
 use Rattle.storage.specs.Stored.{held_expr, arena_of}
 use Rattle.storage.proofs.Laws.{length_arena, table_at}
-use Rattle.expr.specs.Cache.{packed, entry_of, cache_of}
+use Rattle.expr.specs.Cache.{cache_of}
 use Rattle.storage.specs.Exprs.{held}
 
 -- The arena ----------------------------------------------------------------------------------------------------------------------
@@ -69,22 +69,13 @@ module _ (recs : List ℕ) (n : ℕ) where
 
 -- The cache ----------------------------------------------------------------------------------------------------------------------
 
-back : (a b : Bool) → entry_of (packed (record { column = a; independent = b })) ≡ some (record { column = a; independent = b })
-back true true = refl
-back true false = refl
-back false true = refl
-back false false = refl
-
-pub unpacked_packed : (o : ObservableOrders) → entry_of (packed o) ≡ some o
-unpacked_packed o = back o.column o.independent
-
-module _ (bytes : List ℕ) (p : ℕ) (within : p < length bytes) (o : ObservableOrders) where
-  entry_at : (q : ℕ) (t : Bool) → eqb q p ≡ t → cache_of (set bytes p (packed o)) q ≡ with_entry p o (cache_of bytes) q
+module _ (entries : List (Option ObservableOrders)) (p : ℕ) (within : p < length entries) (o : ObservableOrders) where
+  entry_at : (q : ℕ) (t : Bool) → eqb q p ≡ t → cache_of (set entries p (Some o)) q ≡ with_entry p o (cache_of entries) q
   unfolding cache_of
-  entry_at q true i = rw (i, eqb-true q p i, get_or-set_same bytes p (packed o) 0 within, unpacked_packed o)
-  entry_at q false i = rw (i, get_or-set_other bytes p q (packed o) 0 (eqb-false q p i))
+  entry_at q true i = rw (i, eqb-true q p i, get_or-set_same entries p (Some o) None within)
+  entry_at q false i = rw (i, get_or-set_other entries p q (Some o) None (eqb-false q p i))
 
   pub cache_written : (c : Bool)
-      → cache_of (set bytes p (if c then packed o else get_or bytes p 0)) ≡ (if c then with_entry p o (cache_of bytes) else cache_of bytes)
+      → cache_of (set entries p (if c then Some o else get_or entries p None)) ≡ (if c then with_entry p o (cache_of entries) else cache_of entries)
   cache_written true = fun_ext (λ q. entry_at q (eqb q p) refl)
-  cache_written false = rw (set-get_or bytes p 0)
+  cache_written false = rw (set-get_or entries p None)

@@ -4,10 +4,10 @@ use mathlib.Core.Path.{◌≡◌, refl, sym, ap, ◌∙◌}
 use Prim.Native.Nat.{ℕ, zero, suc, ◌+◌, ◌*◌, ◌<◌, ◌≤◌, ◌^◌}
 use native.Mathlib.Nat.{le_of_lt, lt_of_le_of_lt, lt_of_lt_of_le}
 use native.Mathlib.Omega.{arith}
-use mathlib.Core.Bool.{Bool, true, false, ◌&&◌, ◌||◌, not, true≢false, false≢true}
+use mathlib.Core.Bool.{Bool, true, false, ◌&&◌, ◌||◌, not, false≢true}
 use mathlib.Core.List.{List, [], ◌∷◌}
-use mathlib.Core.Option.{Option, none, some}
-use lib.Dec.{eqb}
+use Rattle.std.specs.Prelude.{Option, None, Some}
+use Rattle.std.proofs.Math.Option as definition
 use lib.ListN.{length, get_or}
 use lib.Seq.{get_or-set_same}
 use borrow.Author.Tests.{eqb-true}
@@ -25,14 +25,15 @@ use Rattle.plan.specs.Look as plan
 use Rattle.storage.specs.Stored.{stored_expr}
 use Rattle.expr.specs.declared.after.After.{After}
 use Rattle.storage.specs.declared.exprs.ExprRecord.{ExprRecord}
-use Rattle.expr.specs.Cache.{unpacked, cache_of}
-use Rattle.storage.specs.Exprs.{record_of, held, RecordHeld, IsHeld}
-use Rattle.expr.specs.State.{State, eos_of, Falls, Based, Formed, Kept, Readable, sorts, preserves, is_replaced_line}
+use Rattle.expr.specs.Cache.{entry_of, cache_of}
+use Rattle.storage.specs.Exprs.{record_of, held, IsHeld}
+use Rattle.storage.specs.Based.{Falls, sorts, Based}
+use Rattle.expr.specs.State.{State, eos_of, Kept, Readable, preserves, is_replaced_line}
 use Rattle.expr.specs.Tables.{output_of, after_of, answers}
 use Rattle.expr.specs.Contract.{Walked, looked_of, LookAsks, LookGives, answer_by, AgainAsks, AgainGives, ended_by, Ended, Answers, reach, AlongAsks, IsWalk, AlongGives}
 use Rattle.plan.proofs.Booleans.{and_left, and_right}
 use Rattle.expr.proofs.Records.{above_least}
-use Rattle.expr.proofs.States.{kept_trans, formed_kept, counted, answering, copied, kept_owning, kept_copied, eos_cache, eos_field, eos_looks, eos_counted, eos_answering, same_field, eos_at, eos_copied}
+use Rattle.expr.proofs.States.{Formed, Holds, kept_trans, formed_kept, counted, answering, copied, kept_owning, kept_copied, eos_cache, eos_field, eos_looks, eos_counted, eos_answering, same_field, eos_at, eos_copied}
 use Rattle.expr.proofs.Laws.{finish, after_answers, look_hit, look_copied, look_rest, up_finish, up_look, up_count}
 use Rattle.expr.proofs.Along.{after_seen}
 
@@ -93,18 +94,10 @@ module _ (recs : List ℕ) (n : ℕ) (s : State) (p : ℕ) (based : Based recs n
   pub line_below : get_or s.line p 0 < n
   line_below = lt_of_le_of_lt (formed.below p within) within
 
-  pub line_record : RecordHeld recs (get_or s.line p 0)
-  line_record =
-      record {
-        few = lt_of_lt_of_le line_below based.few;
-        room = omega (arith, line_below, based.room);
-        formed = based.formed (get_or s.line p 0) line_below;
-      }
-
   preserves_is : (tally : Tally) → (expr_at (eos_of tally recs n s).expr_arena p).length_preserving ≡ preserves recs s.line p
   preserves_is tally = rw (eos_at tally recs n s p within, held_length_preserving recs (get_or s.line p 0) (get_or s.off p false))
 
-module _ (recs : List ℕ) (n : ℕ) (s : State) (p : ℕ) (allow : Bool) (r : LookAsks recs n s p allow) where
+module _ (recs : List ℕ) (n : ℕ) (s : State) (p : ℕ) (allow : Bool) (holds : Holds recs n s) (r : LookAsks recs n s p allow) where
   abbrev S : Tally → plan.Eos
   S tally = eos_of tally recs n s
 
@@ -112,7 +105,7 @@ module _ (recs : List ℕ) (n : ℕ) (s : State) (p : ℕ) (allow : Bool) (r : L
   l = get_or s.line p 0
 
   l_below : l < n
-  l_below = line_below recs n s p r.based r.formed r.within
+  l_below = line_below recs n s p holds.based holds.formed r.within
 
   pub count_fits : s.own.looks + 1 < 2 ^ 58
   count_fits = go r.fuel r.enough r.fits
@@ -136,7 +129,7 @@ module _ (recs : List ℕ) (n : ℕ) (s : State) (p : ℕ) (allow : Bool) (r : L
     kind_is = ap (λ (x : Expr). x.kind) is_e.is ∙ held_kind recs l (get_or s.off p false)
 
     e_falls : Falls l E.children
-    e_falls = rw children_is (r.based.falls l l_below)
+    e_falls = rw children_is (holds.based.falls l l_below)
 
     pub e_reach : reach e ≤ l
     e_reach = above_least E.children l e_falls
@@ -144,10 +137,10 @@ module _ (recs : List ℕ) (n : ℕ) (s : State) (p : ℕ) (allow : Bool) (r : L
     pub e_readable : Readable s.line E.children
     e_readable =
         record {
-          child = λ k h. omega (arith, e_falls.child k h, l_below, r.based.few);
+          child = λ k h. omega (arith, e_falls.child k h, l_below, holds.based.few);
           held = λ k h.
               let c = get_or E.children k 0 in
-              omega (arith, e_falls.child k h, l_below, r.based.few, r.formed.below c (omega (arith, e_falls.child k h, l_below)));
+              omega (arith, e_falls.child k h, l_below, holds.based.few, holds.formed.below c (omega (arith, e_falls.child k h, l_below)));
         }
 
     replaced_is : (tally : Tally) → is_replaced (S tally).expr_arena E allow ≡ is_replaced_line recs s.line E allow
@@ -155,43 +148,35 @@ module _ (recs : List ℕ) (n : ℕ) (s : State) (p : ℕ) (allow : Bool) (r : L
     replaced_is tally =
         rw (
         all_same (λ q. (expr_at (S tally).expr_arena q).length_preserving) (preserves recs s.line) E.children
-        (λ k h. preserves_is recs n s (get_or E.children k 0) r.based r.formed (omega (arith, e_falls.child k h, l_below)) tally)
+        (λ k h. preserves_is recs n s (get_or E.children k 0) holds.based holds.formed (omega (arith, e_falls.child k h, l_below)) tally)
         )
 
     module _ (b : Before) (b_is : b ≡ before E allow e.kind) where
-      abbrev entry : ℕ
-      entry = get_or s.cache p 0
-
-      abbrev asked : Tally → Option ObservableOrders
+      abbrev asked : Tally → definition.Option ObservableOrders
       asked tally = check_return_cached (before E allow e.kind) p (one_look (S tally))
 
-      asked_is : (tally : Tally) → asked tally ≡ (if b.checks then (if eqb entry 0 then none else some (unpacked entry)) else none)
+      either : (c : Bool) (entry : Option ObservableOrders) → entry_of (if c then entry else None) ≡ (if c then entry_of entry else definition.none)
+      either true entry = refl
+      either false entry = refl
+
+      asked_is : (hit : Option ObservableOrders) → hit ≡ (if b.checks then get_or s.cache p None else None) → (tally : Tally) → asked tally ≡ entry_of hit
       unfolding check_return_cached cache_of
-      asked_is tally = rw (← b_is, eos_cache tally recs n s)
-
-      found : (c z : Bool) → (c && not z) ≡ true → (if c then (if z then none else some (unpacked entry)) else none) ≡ some (unpacked entry)
-      found true true h = absurd (false≢true h)
-      found true false h = refl
-      found false z h = absurd (false≢true h)
-
-      lacking : (c z : Bool) → (c && not z) ≡ false → (if c then (if z then none else some (unpacked entry)) else none) ≡ none
-      lacking true true h = refl
-      lacking true false h = absurd (true≢false h)
-      lacking false z h = refl
+      asked_is hit h tally = rw (← b_is, eos_cache tally recs n s, h) (sym (either b.checks (get_or s.cache p None)))
 
       -- check_return_cached!
-      pub gives_hit : (o : ObservableOrders) → (b.checks && not (eqb entry 0)) ≡ true → o ≡ unpacked entry → LookGives recs n s p allow (answering o (counted s))
-      gives_hit o h q = record { is = hit_is; kept = kept_owning _ s }
+      pub gives_hit : (hit : Option ObservableOrders) → hit ≡ (if b.checks then get_or s.cache p None else None) → (o : ObservableOrders) → hit ≡ Some o
+          → LookGives recs n s p allow (answering o (counted s))
+      gives_hit hit q o h = record { is = hit_is; kept = kept_owning _ s }
         where
           hit_is : (tally : Tally) (f : ℕ) → l < f → looked_of tally recs n (answering o (counted s)) ≡ look f allow p (S tally)
           hit_is tally zero i = absurd (omega arith)
           hit_is tally (suc f) i =
-              rw (eos_answering tally recs n (counted s) o, eos_counted tally recs n s, q)
-              (sym (look_hit f allow p (S tally) E (E_is tally) (unpacked entry) (asked_is tally ∙ found b.checks (eqb entry 0) h)))
+              rw (eos_answering tally recs n (counted s) o, eos_counted tally recs n s)
+              (sym (look_hit f allow p (S tally) E (E_is tally) o (asked_is hit q tally ∙ ap entry_of h)))
 
-      module _ (miss : (b.checks && not (eqb entry 0)) ≡ false) where
-        asked_none : (tally : Tally) → asked tally ≡ none
-        asked_none tally = asked_is tally ∙ lacking b.checks (eqb entry 0) miss
+      module _ (hit : Option ObservableOrders) (hit_is : hit ≡ (if b.checks then get_or s.cache p None else None)) (miss : hit ≡ None) where
+        asked_none : (tally : Tally) → asked tally ≡ definition.none
+        asked_none tally = asked_is hit hit_is tally ∙ ap entry_of miss
 
         -- the first child's record takes the place of e
         module _ (x : Bool) (x_is : x ≡ is_replaced_line recs s.line E allow) (taken : x ≡ true) (c : ℕ) (c_is : c ≡ get_or E.children 0 0) where
@@ -209,13 +194,13 @@ module _ (recs : List ℕ) (n : ℕ) (s : State) (p : ℕ) (allow : Bool) (r : L
           some_child : 0 < length E.children
           some_child =
               rw children_is
-              (r.based.sorted l l_below (rw (← kind_is) (is_sorting allow (all? (preserves recs s.line) E.children) E.kind gone)))
+              (holds.based.sorted l l_below (rw (← kind_is) (is_sorting allow (all? (preserves recs s.line) E.children) E.kind gone)))
 
           c_falls : c < l
           c_falls = rw c_is (e_falls.child 0 some_child)
 
           pub child_128 : c < 128
-          child_128 = omega (arith, c_falls, l_below, r.based.few)
+          child_128 = omega (arith, c_falls, l_below, holds.based.few)
 
           c_within : c < n
           c_within = omega (arith, c_falls, l_below)
@@ -224,22 +209,22 @@ module _ (recs : List ℕ) (n : ℕ) (s : State) (p : ℕ) (allow : Bool) (r : L
           t₁ = copied p c (counted s)
 
           p_128 : p < 128
-          p_128 = omega (arith, r.within, r.based.few)
+          p_128 = omega (arith, r.within, holds.based.few)
 
           here : get_or t₁.line p 0 ≡ get_or s.line c 0
-          here = get_or-set_same s.line p (get_or s.line c 0) 0 (rw r.formed.sized.line p_128)
+          here = get_or-set_same s.line p (get_or s.line c 0) 0 (rw holds.formed.sized.line p_128)
 
           pub copy_falls : get_or t₁.line p 0 < l
-          copy_falls = rw here (lt_of_le_of_lt (r.formed.below c c_within) c_falls)
+          copy_falls = rw here (lt_of_le_of_lt (holds.formed.below c c_within) c_falls)
 
-          t₁_kept : Kept s t₁
-          t₁_kept =
+          pub copy_kept : Kept s t₁
+          copy_kept =
               kept_trans (kept_owning _ s)
-              (kept_copied p c (counted s) (rw r.formed.sized.line p_128) (le_of_lt (lt_of_le_of_lt (r.formed.below c c_within) c_falls)))
+              (kept_copied p c (counted s) (rw holds.formed.sized.line p_128) (le_of_lt (lt_of_le_of_lt (holds.formed.below c c_within) c_falls)))
 
           t₁_is : (tally : Tally) → eos_of tally recs n t₁ ≡ replace_by_input p E (one_look (S tally))
           t₁_is tally =
-              eos_copied tally recs n (counted s) p c r.within c_within (rw r.formed.sized.line p_128) (rw r.formed.sized.off p_128)
+              eos_copied tally recs n (counted s) p c r.within c_within (rw holds.formed.sized.line p_128) (rw holds.formed.sized.off p_128)
               ∙ rw (eos_counted tally recs n s, c_is)
 
           look_is : (tally : Tally) (f : ℕ) → look (suc f) allow p (S tally) ≡ look f allow p (eos_of tally recs n t₁)
@@ -252,8 +237,7 @@ module _ (recs : List ℕ) (n : ℕ) (s : State) (p : ℕ) (allow : Bool) (r : L
               go zero h k = absurd (omega arith)
               go (suc f) h k =
                   record {
-                    based = r.based;
-                    formed = formed_kept r.formed t₁_kept;
+                    cached = r.cached;
                     within = r.within;
                     tally = r.tally;
                     fuel = f;
@@ -262,7 +246,7 @@ module _ (recs : List ℕ) (n : ℕ) (s : State) (p : ℕ) (allow : Bool) (r : L
                   }
 
           pub gives_copy : (u : State) → LookGives recs n t₁ p allow u → LookGives recs n s p allow u
-          gives_copy u g = record { is = copy_is; kept = kept_trans t₁_kept g.kept }
+          gives_copy u g = record { is = copy_is; kept = kept_trans copy_kept g.kept }
             where
               copy_is : (tally : Tally) (f : ℕ) → l < f → looked_of tally recs n u ≡ look f allow p (S tally)
               copy_is tally zero h = absurd (omega arith)
@@ -290,8 +274,7 @@ module _ (recs : List ℕ) (n : ℕ) (s : State) (p : ℕ) (allow : Bool) (r : L
               go (suc f) h k =
                   let d = D r.tally f in
                   record {
-                    based = r.based;
-                    formed = formed_kept r.formed (kept_owning _ s);
+                    cached = r.cached;
                     shaped = is_e.shaped;
                     within = omega (arith, e_reach, l_below);
                     tally = r.tally;
@@ -302,7 +285,7 @@ module _ (recs : List ℕ) (n : ℕ) (s : State) (p : ℕ) (allow : Bool) (r : L
 
           module _ (w : Walked) (g : AlongGives recs n (counted s) e b w) (v : After)
               (v_is : after_of v ≡ after E allow s.own.field (answers w.seen) w.seen.acc e.kind) where
-            walk_is : (tally : Tally) (f : ℕ) → l ≤ f → IsWalk tally recs n e.count w (D tally f)
+            walk_is : (tally : Tally) (f : ℕ) → l ≤ f → IsWalk tally recs n e.children.count w (D tally f)
             walk_is tally f h = g.is tally f (omega (arith, e_reach, h))
 
             V_walk : (tally : Tally) (f : ℕ) → l ≤ f → after_answers allow E s.own.field (D tally f) ≡ after_of v
@@ -318,7 +301,7 @@ module _ (recs : List ℕ) (n : ℕ) (s : State) (p : ℕ) (allow : Bool) (r : L
             walk_kept = kept_trans (kept_owning _ s) g.kept
 
             walk_formed : Formed n w.state
-            walk_formed = formed_kept r.formed walk_kept
+            walk_formed = formed_kept holds.formed walk_kept
 
             -- the single ordered child once more
             abbrev node : ℕ
@@ -374,8 +357,7 @@ module _ (recs : List ℕ) (n : ℕ) (s : State) (p : ℕ) (allow : Bool) (r : L
                 go twice zero h k = absurd (omega arith)
                 go twice (suc f) h k =
                     record {
-                      based = r.based;
-                      formed = walk_formed;
+                      cached = walk_formed.sized.cache;
                       within = omega (arith, node_near twice, l_below);
                       tally = r.tally;
                       fuel = f;

@@ -1,19 +1,13 @@
--- An entry of the revisit cache in one byte: 0 for none, else 4 and the order set's number.
-use Rattle.std.specs.Prelude.{ℕ, ◌+◌, ◌%◌, List, eqb, get_or, if◌then◌else◌}
-use Rattle.std.proofs.Math.Option.{Option, none, some}
+-- The revisit cache: for each node its entry, if it has one.
+use Rattle.std.specs.Prelude.{ℕ, List, Option, None, Some, get_or}
+use Rattle.std.proofs.Math.Option as definition
 use Rattle.plan.specs.declared.orders.ObservableOrders.{ObservableOrders}
-use Rattle.expr.specs.Eos.{code, orders}
 
-abbrev pub packed : ObservableOrders → ℕ
-packed o = code o + 4
+-- the code's entry as the definition has it
+abbrev pub entry_of : Option ObservableOrders → definition.Option ObservableOrders
+entry_of None = definition.none
+entry_of (Some o) = definition.some o
 
-abbrev pub unpacked : ℕ → ObservableOrders
-unpacked entry = orders (entry % 4)
-
--- the entry of a node, if it has one
-abbrev pub entry_of : ℕ → Option ObservableOrders
-entry_of entry = if eqb entry 0 then none else some (unpacked entry)
-
--- the map that the bytes hold
-unfoldable pub cache_of : List ℕ → ℕ → Option ObservableOrders
-cache_of bytes q = entry_of (get_or bytes q 0)
+-- the map that the entries hold
+unfoldable pub cache_of : List (Option ObservableOrders) → ℕ → definition.Option ObservableOrders
+cache_of entries q = entry_of (get_or entries q None)

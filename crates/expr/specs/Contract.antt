@@ -1,5 +1,5 @@
 -- What a look, a second look and a look along the children ask and give.
-use Rattle.std.specs.Prelude.{◌≡◌, ℕ, zero, suc, ◌≤◌, ◌<◌, ◌^◌, Bool, true, List, length, get_or, take, drop, if◌then◌else◌}
+use Rattle.std.specs.Prelude.{Option, ◌≡◌, ℕ, zero, suc, ◌≤◌, ◌<◌, ◌^◌, Bool, true, List, length, get_or, take, drop, if◌then◌else◌}
 use Rattle.plan.specs.declared.looks.Before.{Before}
 use Rattle.plan.specs.declared.orders.ExprOrderAcc.{ExprOrderAcc}
 use Rattle.plan.specs.declared.orders.ObservableOrders.{ObservableOrders}
@@ -12,8 +12,9 @@ use Rattle.expr.specs.declared.after.After.{After}
 use Rattle.expr.specs.declared.seen.Seen.{Seen}
 use Rattle.storage.specs.declared.exprs.ExprRecord.{ExprRecord}
 use Rattle.expr.specs.Seen.{Sees}
-use Rattle.storage.specs.Exprs.{record_of, Shaped}
-use Rattle.expr.specs.State.{State, eos_of, above, Based, Formed, Kept}
+use Rattle.storage.specs.Entries.{Shaped}
+use Rattle.storage.specs.Exprs.{record_of}
+use Rattle.expr.specs.State.{State, eos_of, above, Kept}
 use Rattle.expr.specs.Tables.{after_of}
 
 -- the answer and the state, where the run's tally was that before the visit
@@ -22,8 +23,7 @@ looked_of tally recs n r = (r.own.answer, eos_of tally recs n r)
 
 -- a look at p: from some tally and at some sufficient fuel, the definition's looks fit beside the order sets
 pub record LookAsks (recs : List ℕ) (n : ℕ) (s : State) (p : ℕ) (allow : Bool) : Type 0 where
-  pub based : Based recs n
-  pub formed : Formed n s
+  pub cached : length s.cache ≡ 128
   pub within : p < n
   pub tally : Tally
   pub fuel : ℕ
@@ -55,10 +55,9 @@ abbrev pub ended_by : ℕ → Expr → plan.After → ObservableOrders → List 
 ended_by p e v field os r = (r.0, look_ended p e v r.0 field os r.1)
 
 -- the end of a look at p
-pub record EndAsks (off : List Bool) (cache : List ℕ) (p : ℕ) : Type 0 where
+pub record EndAsks (cache : List (Option ObservableOrders)) (p : ℕ) : Type 0 where
   pub within : p < 128
-  pub off_size : length off ≡ 128
-  pub cache_size : length cache ≡ 128
+  pub cached : length cache ≡ 128
 
 -- for every base and every list of answers that begins with the first one
 pub record Ended (s : State) (p : ℕ) (e : Expr) (v : plan.After) (field first : ObservableOrders) (r : State) : Type 0 where
@@ -91,7 +90,7 @@ reach e = above (record_of e).children
 
 -- the invariant: from s on, the looks at the children before the i-th left the state t, and the others go on from it
 pub record Reached (recs : List ℕ) (n : ℕ) (s : State) (e : ExprRecord) (b : Before) (t : State) (x : Seen) (i : ℕ) : Type 0 where
-  pub most : i ≤ e.count
+  pub most : i ≤ e.children.count
   pub os : List ObservableOrders
   pub begun : Begun (reach e) i os x
   pub kept : Kept s t
@@ -100,9 +99,8 @@ pub record Reached (recs : List ℕ) (n : ℕ) (s : State) (e : ExprRecord) (b :
       ≡ along_from (look f) (record_of e) b i os x.acc (eos_of tally recs n t)
 
 pub record AlongAsks (recs : List ℕ) (n : ℕ) (s : State) (e : ExprRecord) (b : Before) : Type 0 where
-  pub based : Based recs n
-  pub formed : Formed n s
-  pub shaped : Shaped e
+  pub cached : length s.cache ≡ 128
+  pub shaped : Shaped e.children
   pub within : reach e ≤ n
   pub tally : Tally
   pub fuel : ℕ
@@ -127,7 +125,7 @@ pub record IsWalk (tally : Tally) (recs : List ℕ) (n : ℕ) (count : ℕ) (r :
 
 pub record AlongGives (recs : List ℕ) (n : ℕ) (s : State) (e : ExprRecord) (b : Before) (r : Walked) : Type 0 where
   pub is : (tally : Tally) (f : ℕ) → reach e ≤ f
-      → IsWalk tally recs n e.count r (look_along_children (look f) (record_of e) b (eos_of tally recs n s))
+      → IsWalk tally recs n e.children.count r (look_along_children (look f) (record_of e) b (eos_of tally recs n s))
   pub kept : Kept s r.state
-  pub most : r.seen.acc.num_ordered_inputs ≤ e.count
+  pub most : r.seen.acc.num_ordered_inputs ≤ e.children.count
   pub near : 0 < r.seen.acc.num_ordered_inputs → r.seen.acc.last_ordered_node < reach e

@@ -6,5 +6,4 @@ pub mod Tables
 pub mod State
 pub mod Contract
 pub mod Projected
-pub mod Start
 pub mod Read

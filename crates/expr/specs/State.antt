@@ -1,11 +1,12 @@
 -- The state of the looks as the definition has it, and what a look asks of it.
-use Rattle.std.specs.Prelude.{◌≡◌, ℕ, suc, ◌+◌, ◌-◌, ◌*◌, ◌≤◌, ◌<◌, Bool, true, ◌&&◌, ◌||◌, List, [], ◌∷◌, length, get_or}
+use Rattle.plan.specs.declared.orders.ObservableOrders.{ObservableOrders}
+use Rattle.std.specs.Prelude.{Option, ◌≡◌, ℕ, suc, ◌+◌, ◌-◌, ◌≤◌, ◌<◌, Bool, ◌&&◌, ◌||◌, List, [], ◌∷◌, length, get_or}
 use Rattle.plan.specs.declared.aexpr.AExpr.{AExpr}
 use Rattle.plan.specs.Kinds.{same_aexpr}
 use Rattle.plan.specs.Lists.{all?}
 use Rattle.plan.specs.Sheet.{Expr}
 use Rattle.plan.specs.Look as look
-use Rattle.storage.specs.Stored.{stored_expr, arena_of, ExprFormed}
+use Rattle.storage.specs.Stored.{stored_expr, arena_of}
 use Rattle.plan.specs.declared.tally.Tally.{Tally}
 use Rattle.plan.specs.Tally.{looks_more}
 use Rattle.expr.specs.declared.eos.Eos.{Eos}
@@ -16,10 +17,10 @@ use Rattle.expr.specs.Eos.{Own, own_of}
 pub record State : Type 0 where
   pub line : List ℕ
   pub off : List Bool
-  pub cache : List ℕ
+  pub cache : List (Option ObservableOrders)
   pub own : Own
 
-abbrev pub state : List ℕ → List Bool → List ℕ → Eos → State
+abbrev pub state : List ℕ → List Bool → List (Option ObservableOrders) → Eos → State
 state line off cache s = record { line = line; off = off; cache = cache; own = own_of s }
 
 -- as the definition has it; the run's tally before the visit goes on by the looks of the visit
@@ -33,26 +34,12 @@ eos_of tally recs n s =
       tally = looks_more s.own.looks tally;
     }
 
--- The base records ---------------------------------------------------------------------------------------------------------------
-
--- every child is below m
-pub record Falls (m : ℕ) (children : List ℕ) : Type 0 where
-  pub child : (k : ℕ) → k < length children → get_or children k 0 < m
+-- Children ------------------------------------------------------------------------------------------------------------------------
 
 -- the least number that every child is below
 unfoldable pub above : List ℕ → ℕ
 above [] = 0
 above (c ∷ cs) = suc c + (above cs - suc c)
-
-abbrev pub sorts : AExpr → Bool
-sorts kind = same_aexpr kind AExpr.Sort || same_aexpr kind AExpr.SortBy
-
-pub record Based (recs : List ℕ) (n : ℕ) : Type 0 where
-  pub few : n ≤ 128
-  pub room : n * 16 ≤ length recs
-  pub formed : (l : ℕ) → l < n → ExprFormed recs l
-  pub falls : (l : ℕ) → l < n → Falls l (stored_expr recs l).children
-  pub sorted : (l : ℕ) → l < n → sorts (stored_expr recs l).kind ≡ true → 0 < length (stored_expr recs l).children
 
 -- The lines ----------------------------------------------------------------------------------------------------------------------
 
@@ -60,11 +47,6 @@ pub record Sized (s : State) : Type 0 where
   pub line : length s.line ≡ 128
   pub off : length s.off ≡ 128
   pub cache : length s.cache ≡ 128
-
--- a line holds its own record or a lower one
-pub record Formed (n : ℕ) (s : State) : Type 0 where
-  pub sized : Sized s
-  pub below : (q : ℕ) → q < n → get_or s.line q 0 ≤ q
 
 -- no line holds a base record above the one that it held before
 pub record Kept (s r : State) : Type 0 where

@@ -1,9 +1,10 @@
 -- The rows of the table after the looks along the children.
-use Rattle.std.specs.Prelude.{◌≡◌, ℕ, Bool, true, ◌&&◌, ◌||◌, not, List, [], ◌∷◌, eqb, if◌then◌else◌}
+use Rattle.std.specs.Prelude.{◌≡◌, ℕ, ◌<◌, Bool, true, ◌&&◌, ◌||◌, not, List, [], ◌∷◌, eqb, if◌then◌else◌}
 use Rattle.plan.specs.declared.orders.ExprOrderAcc.{ExprOrderAcc}
 use Rattle.plan.specs.declared.orders.ObservableOrders.{ObservableOrders}
 use Rattle.plan.specs.FunctionFlags.{observes_input_order, terminates_input_order, non_order_producing}
-use Rattle.plan.specs.Kinds.{aexpr}
+use Rattle.plan.specs.declared.aexpr.AExpr.{AExpr}
+use Rattle.plan.specs.Kinds.{aexpr_number}
 use Rattle.plan.specs.Sheet.{Expr}
 use Rattle.plan.specs.Orders.{∅, ◌∪◌, is_empty, no_orders, single}
 use Rattle.plan.specs.Look as look
@@ -25,9 +26,10 @@ after_of v = look.twice v.observes v.again v.answer (output_of v.answer v.answer
 abbrev pub answers : Seen → List ObservableOrders
 answers x = x.first ∷ x.second ∷ x.third ∷ []
 
--- r is the answer of a record without children, whose kind has the number k
-pub record Leaf (k : ℕ) (scalar : Bool) (field r : ObservableOrders) : Type 0 where
-  pub is : (e : Expr) (allow : Bool) → e.scalar ≡ scalar → look.after e allow field [] no_orders (aexpr k) ≡ look.plain r
+-- r is the answer of a record without children, of one of the first five kinds
+pub record Leaf (kind : AExpr) (scalar : Bool) (field r : ObservableOrders) : Type 0 where
+  pub first_five : aexpr_number kind < 5
+  pub is : (e : Expr) (allow : Bool) → e.scalar ≡ scalar → look.after e allow field [] no_orders kind ≡ look.plain r
 
 -- The rows with a second look, over what they read -------------------------------------------------------------------------------
 

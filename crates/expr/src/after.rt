@@ -1,13 +1,13 @@
 // What a record does once its children have answered, by its kind.
-ghost use Rattle.std.specs.Prelude.{◌≡◌, ◌<◌};
+ghost use Rattle.std.specs.Prelude.{◌≡◌, IfSome};
 ghost use Rattle.plan.specs.declared.orders.ObservableOrders.{ObservableOrders};
 ghost use Rattle.plan.specs.Look.{twice, once, plain, after};
 ghost use Rattle.storage.specs.Exprs.{record_of};
 ghost use Rattle.expr.specs.Tables.{output_of, after_of, ternary_output, projected_row, filter_row, ternary_row, function_row, answers, Leaf};
 
-use crate::record::first_child;
-use crate::seen::{Seen, pick};
+use crate::seen::Seen;
 use plan::aexpr::AExpr;
+use plan::choice::pick;
 use plan::function_flags::FunctionFlags;
 use plan::function_output::function_output;
 use plan::orders::{ExprOrderAcc, ObservableOrders as O};
@@ -69,11 +69,11 @@ impl After {
         ensures { after_of result ≡ twice observes again answer (output_of answer answer_again) caches }
     {
         After {
-            observes: observes,
-            again: again,
-            answer: answer,
-            answer_again: answer_again,
-            caches: caches,
+            observes,
+            again,
+            answer,
+            answer_again,
+            caches,
         }
     }
 
@@ -145,7 +145,6 @@ impl After {
     pub fn of(e: ExprRecord, allow: bool, field: O, seen: Seen) -> After
         ensures { after_of result ≡ after (record_of e) allow field (answers seen) seen.acc e.kind }
     {
-        let kind = e.kind;
         let x = seen.acc;
         let acc = x.acc;
         let o0 = seen.first;
@@ -153,14 +152,14 @@ impl After {
         let o2 = seen.third;
         let set = e.option == 1;
         let mixed = pick(x.saw_mixed_inputs, acc, O::EMPTY);
-        match kind {
+        match e.kind {
             AExpr::Column => After::plain(O::COLUMN),
             AExpr::Literal => After::plain(pick(e.scalar, O::EMPTY, O::INDEPENDENT)),
             AExpr::Element => After::plain(O::INDEPENDENT),
             AExpr::StructField => After::plain(field),
             AExpr::Len => After::plain(O::EMPTY),
             AExpr::BinaryExpr => After::projected(x, allow),
-            AExpr::Ternary => After::ternary(x, allow, first_child(e), o0.union(o1)),
+            AExpr::Ternary => After::ternary(x, allow, e.children.first(), o0.union(o1)),
             AExpr::Cast => After::plain(o0),
             AExpr::Explode => After::plain(o0.union(O::INDEPENDENT)),
             AExpr::Sort => After::plain(O::INDEPENDENT),
@@ -191,16 +190,16 @@ impl After {
     }
 }
 
-// The answer of a record without children, of one of the first five kinds.
-pub fn leaf(kind: u8, scalar: bool, field: O) -> O
-    requires { kind < 5 }
-    ensures { Leaf kind scalar field result }
+// The answer of a record without children, if it is of one of the five kinds that only leaves have.
+pub fn leaf(kind: AExpr, scalar: bool, field: O) -> Option<O>
+    ensures { IfSome result (λ o. Leaf kind scalar field o) }
 {
     match kind {
-        0 => O::COLUMN,
-        1 => pick(scalar, O::EMPTY, O::INDEPENDENT),
-        2 => O::INDEPENDENT,
-        3 => field,
-        _ => O::EMPTY,
+        AExpr::Column => Some(O::COLUMN),
+        AExpr::Literal => Some(pick(scalar, O::EMPTY, O::INDEPENDENT)),
+        AExpr::Element => Some(O::INDEPENDENT),
+        AExpr::StructField => Some(field),
+        AExpr::Len => Some(O::EMPTY),
+        _ => None,
     }
 }

@@ -11,18 +11,18 @@ fn row(checks: bool, turned: bool, first: bool) -> Before
     ensures { result ≡ row checks turned first }
 {
     Before {
-        checks: checks,
-        turned: turned,
-        first: first,
+        checks,
+        turned,
+        first,
     }
 }
 
 // allow: is de-ordering allowed where the record is looked at?
+#[tactic(auto, unfolding(plan::specs::Look::before))]
 pub fn before_of(e: ExprRecord, allow: bool) -> Before
     ensures { result ≡ before (record_of e) allow e.kind }
 {
-    let kind = e.kind;
-    match kind {
+    match e.kind {
         AExpr::Column => row(false, false, false),
         AExpr::Literal => row(false, false, false),
         AExpr::Element => row(false, false, false),

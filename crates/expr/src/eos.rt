@@ -6,6 +6,8 @@ use plan::orders::ObservableOrders;
 
 // Lent to the looks beside it, as in the Rust, are the arena and the revisit_cache: `line` has the base record that each line
 // holds now, and `off` whether its Implode was switched off.
+// One number, which goes by value through every call: as a struct of four fields, tried on 2026-11-26, it made a look take from
+// a fifth to a half longer.
 #[derive(Clone, Copy)]
 pub struct Eos {
     // looks * 64 + struct_field_ordering * 16 + internally_observed * 4 + the last look's answer.
@@ -13,7 +15,7 @@ pub struct Eos {
 }
 
 // An order set as a number: 1 for COLUMN and 2 for INDEPENDENT.
-pub(crate) fn code(o: ObservableOrders) -> u64
+fn code(o: ObservableOrders) -> u64
     ensures { (result ≡ code o) × (result < 4) }
 {
     if o.column {
@@ -23,7 +25,7 @@ pub(crate) fn code(o: ObservableOrders) -> u64
     }
 }
 
-pub(crate) fn orders(c: u64) -> ObservableOrders
+fn orders(c: u64) -> ObservableOrders
     ensures { result ≡ orders c }
 {
     ObservableOrders {

@@ -7,6 +7,4 @@ pub mod eos; // eos.rt: what the looks of a visit own, in one number
 pub mod look; // look.rt: a look at a record, and along its children
 pub mod projected; // projected.rt: a list of projected expressions, and the start of a visit
 pub mod record; // record.rt: a record's children in the order of the looks
-pub mod revisit_cache; // revisit_cache.rt: an entry of the revisit cache
 pub mod seen; // seen.rt: what is seen of a record's children
-pub mod start; // start.rt: the lines before anything is changed

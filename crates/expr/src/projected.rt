@@ -4,8 +4,11 @@ ghost use Rattle.expr.specs.Projected.{Started, ListAsks, ListGives};
 
 use crate::eos::Eos;
 use crate::look::look;
-use crate::seen::{Seen, pick};
+use crate::seen::Seen;
+use plan::choice::pick;
 use plan::orders::ObservableOrders;
+use storage::entries::Entries;
+use storage::stored::{Lines, Records};
 
 // expr_order_simplifier!, beside a revisit_cache without entries.
 pub fn expr_order_simplifier() -> Eos
@@ -15,27 +18,22 @@ pub fn expr_order_simplifier() -> Eos
 }
 
 pub fn simplify_projected_exprs(
-    recs: &[u8; 2048],
-    line: &mut [u8; 128],
-    off: &mut [bool; 128],
-    cache: &mut [u8; 128],
-    n: usize,
+    records: &Records,
+    lines: &mut Lines,
+    cache: &mut [Option<ObservableOrders>; 128],
     s: Eos,
-    nodes: [u8; 8],
-    count: u8,
+    exprs: Entries,
     allow_deordering_top: bool,
 ) -> Eos
-    requires { ListAsks recs.now n (state line.old off.old cache.old s) nodes count allow_deordering_top }
-    ensures { ListGives recs.now n (state line.old off.old cache.old s) nodes count allow_deordering_top (state line.new off.new cache.new result) }
+    requires { ListAsks records.now.bytes records.now.count (state lines.old.holds lines.old.off cache.old s) exprs allow_deordering_top }
+    ensures { ListGives records.now.bytes records.now.count (state lines.old.holds lines.old.off cache.old s) exprs allow_deordering_top (state lines.new.holds lines.new.off cache.new result) }
 {
     let mut t = s;
     let mut seen = Seen::new();
-    let mut i: u8 = 0;
-    while i < count {
-        let c = nodes[i as usize];
-        t = look(recs, line, off, cache, n, t, c as usize, false);
-        seen = seen.add(t.answer(), c, i);
-        i = i + 1;
+    for i in 0..exprs.count {
+        let node = exprs.at(i);
+        t = look(records, lines, cache, t, node as usize, false);
+        seen = seen.add(t.answer(), node, i);
     }
     let acc = seen.acc;
     let so_far = t.observed();
@@ -43,7 +41,7 @@ pub fn simplify_projected_exprs(
     let observing = t.with_observed(so_far.union(mixed));
     if (acc.num_ordered_inputs == 1) & allow_deordering_top {
         let node = acc.last_ordered_node as usize;
-        return look(recs, line, off, cache, n, observing, node, true);
+        return look(records, lines, cache, observing, node, true);
     }
     observing.with_answer(acc.acc)
 }

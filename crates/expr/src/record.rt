@@ -1,9 +1,8 @@
 // A record's children in the order of the looks.
-ghost use Rattle.std.specs.Prelude.{◌≡◌, ◌<◌, ◌≤◌, get_or};
-ghost use Rattle.storage.specs.Exprs.{record_of};
+ghost use Rattle.std.specs.Prelude.{◌≡◌, ◌<◌, ◌≤◌};
 ghost use Rattle.expr.specs.Record.{slot, child_at};
 
-use storage::exprs::ExprRecord;
+use storage::entries::Entries;
 
 // Where the child stands that the i-th look goes to: in their order, or the first child last.
 fn slot(turned: bool, count: u8, i: u8) -> u8
@@ -17,17 +16,10 @@ fn slot(turned: bool, count: u8, i: u8) -> u8
     }
 }
 
-pub fn child_of(e: ExprRecord, turned: bool, i: u8) -> u8
-    requires { (i < e.count) × (e.count ≤ 8) }
-    ensures { result ≡ child_at e turned i }
+#[inline(always)]
+pub fn child_of(children: &Entries, turned: bool, i: u8) -> u8
+    requires { (i < children.now.count) × (children.now.count ≤ 8) }
+    ensures { result ≡ child_at children.now turned i }
 {
-    let k = slot(turned, e.count, i) as usize;
-    e.children[k]
-}
-
-// The first child; 0 of a record that has none.
-pub fn first_child(e: ExprRecord) -> u8
-    ensures { result ≡ get_or (record_of e).children 0 0 }
-{
-    if e.count == 0 { 0 } else { e.children[0] }
+    children.nodes[usize::from(slot(turned, children.count, i))]
 }

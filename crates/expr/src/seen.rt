@@ -1,7 +1,8 @@
 // What is seen of a record's children: their ExprOrderAcc, and the answers of the first three.
-ghost use Rattle.std.specs.Prelude.{◌≡◌, ◌<◌, if◌then◌else◌};
+ghost use Rattle.std.specs.Prelude.{◌≡◌, ◌<◌};
 ghost use Rattle.expr.specs.Seen.{none_seen, Adds};
 
+use plan::choice::pick;
 use plan::orders::{ExprOrderAcc, ObservableOrders};
 
 // What a look along children comes to.
@@ -32,26 +33,16 @@ impl Seen {
     }
 
     // The answer o of the i-th child, which is the node.
+    #[inline(always)]
     pub fn add(self, o: ObservableOrders, node: u8, i: u8) -> Seen
         requires { self.acc.num_ordered_inputs < 255 }
         ensures { Adds self o node i result }
     {
-        let acc = self.acc;
-        let next = acc.add(o, node);
-        let first = self.first;
-        let second = self.second;
-        let third = self.third;
         Seen {
-            acc: next,
-            first: pick(i == 0, o, first),
-            second: pick(i == 1, o, second),
-            third: pick(i == 2, o, third),
+            acc: self.acc.add(o, node),
+            first: pick(i == 0, o, self.first),
+            second: pick(i == 1, o, self.second),
+            third: pick(i == 2, o, self.third),
         }
     }
-}
-
-pub fn pick(b: bool, x: ObservableOrders, y: ObservableOrders) -> ObservableOrders
-    ensures { result ≡ (if b then x else y) }
-{
-    if b { x } else { y }
 }

@@ -3,25 +3,24 @@
 
 ghost use Rattle.std.specs.Prelude.{◌≤◌, length};
 ghost use Rattle.plan.specs.Finished.{answer_length};
+ghost use Rattle.plan.specs.Refusals.{outcome_of};
 
-use plan::answer::Answer;
+use plan::answer::Finished;
+use plan::refusal::Refusal;
 use streams::{has_argument, read_input, write_front};
 use writing::lines::put_refusal;
 
-// Did all of the refusal's line go out?
-fn print_refusal(rt: &(impl Print + Eprint), number: u8) -> bool {
-    let mut line: [u8; 6] = [0; 6];
-    let n = put_refusal(&mut line, number);
-    write_front(rt, &line, n)
-}
-
 // Did all of the answer go out?
-fn put_answer(rt: &(impl Print + Eprint), answer: Answer, out: &[u8]) -> bool
-    requires { answer_length answer ≤ length out.now }
+fn put_answer(rt: &(impl Print + Eprint), answer: Result<Finished, Refusal>, out: &[u8]) -> bool
+    requires { answer_length (outcome_of answer) ≤ length out.now }
 {
     match answer {
-        Answer::Finished(f) => write_front(rt, out, f.length),
-        Answer::Refused(number) => print_refusal(rt, number),
+        Ok(finished) => write_front(rt, out, finished.length),
+        Err(refusal) => {
+            let mut line = [0; 6];
+            let n = put_refusal(&mut line, refusal);
+            write_front(rt, &line, n)
+        }
     }
 }
 
@@ -31,13 +30,11 @@ fn main(rt: HostRuntime) {
         let _ = eprintln!(rt; "usage: finish < SHEET");
         return;
     }
-    let mut sheet: [u8; 16385] = [0; 16385];
-    let input = read_input(&rt, "standard input", &mut rt.stdin(), &mut sheet);
-    if input.failed {
+    let mut sheet = [0; 16385];
+    let Some(n) = read_input(&rt, "standard input", &mut rt.stdin(), &mut sheet) else {
         return;
-    }
-    let n = input.length;
-    let mut out: [u8; 16384] = [0; 16384];
+    };
+    let mut out = [0; 16384];
     let answer = engine::finish(&sheet[..n], &mut out);
     put_answer(&rt, answer, &out);
 }

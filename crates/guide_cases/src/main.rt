@@ -3,268 +3,171 @@
 // what finish prints for the last sheet; `right` and `wrong`, papers to that sheet. All other blocks are passed over.
 #![tactic(auto)]
 
-ghost use Rattle.std.specs.Prelude.{◌<◌, ◌≤◌, length};
-ghost use Rattle.plan.specs.Finished.{answer_length};
+ghost use Rattle.std.specs.Prelude.{◌-◌, ◌≤◌, length};
+ghost use Rattle.std.specs.Iterator.{at_most};
 
 use marking::answer::Mark;
-use plan::answer::Answer;
-use std::io;
+use std::fmt::{Display, Formatter, Write};
+use std::{fmt, io};
 use streams::read_path;
 use writing::lines::put_refusal;
 
-// The block that a line of the guide begins: none, one of the four, or another.
+// What a block is, by the name on its first line.
 #[derive(Clone, Copy)]
-enum Block {
-    None,
-    Other,
+enum Kind {
     Sheet,
     Answer,
-    Right,
-    Wrong,
+    Paper(Mark),
+    Other,
 }
 
-// What was found in a block.
 #[derive(Clone, Copy)]
-enum Found {
-    Nothing,
-    Sheet,
-    Agrees,
-    Differs,
+struct Block<'a> {
+    kind: Kind,
+    text: &'a [u8],
+}
+
+// The blocks of what is left of a text.
+#[derive(Drop)]
+struct Blocks<'a> {
+    rest: &'a [u8],
 }
 
 // How many sheets there were, how many examples agreed, how many did not, and the first of these, counted from 1.
-#[derive(Clone, Copy)]
+#[derive(Clone, Copy, Default)]
 struct Score {
     sheets: u64,
     agree: u64,
     differ: u64,
-    first: u64,
+    first: Option<u64>,
 }
 
-fn is_fence(line: &[u8]) -> bool {
-    if line.len() < 3 {
-        return false;
+impl Score {
+    fn count_sheet(&mut self) {
+        self.sheets = self.sheets.saturating_add(1);
     }
-    check::same(&line[..3], b"```")
-}
 
-fn block_of(line: &[u8]) -> Block {
-    if !is_fence(line) {
-        return Block::None;
-    }
-    if check::same(line, b"```sheet\n") {
-        return Block::Sheet;
-    }
-    if check::same(line, b"```answer\n") {
-        return Block::Answer;
-    }
-    if check::same(line, b"```right\n") {
-        return Block::Right;
-    }
-    if check::same(line, b"```wrong\n") {
-        return Block::Wrong;
-    }
-    Block::Other
-}
-
-// Where the line that begins at the place `at` ends, its byte 10 with it.
-fn line_end(text: &[u8], at: usize) -> usize
-    requires { at ≤ length text.now }
-    ensures lower_bound { (at ≤ result) × (result ≤ length text.now) }
-    ensures lower_bound_2 { at < length text.now → at < result }
-{
-    let mut i = at;
-    while i < text.len() {
-        if text[i] == 10 {
-            return i + 1;
+    fn count(&mut self, agrees: bool) {
+        if agrees {
+            self.agree = self.agree.saturating_add(1);
+        } else {
+            self.differ = self.differ.saturating_add(1);
+            let number = self.agree.saturating_add(self.differ);
+            self.first = self.first.or(Some(number));
         }
-        i += 1;
     }
-    i
 }
 
-// Where the block that begins at the place `at` ends: at the next line with three backquotes.
-fn block_end(text: &[u8], at: usize) -> usize
-    requires { at ≤ length text.now }
-    ensures { (at ≤ result) × (result ≤ length text.now) }
-{
-    let mut i = at;
-    while i < text.len() {
-        let end = line_end(text, i);
-        if is_fence(&text[i..end]) {
-            return i;
+impl Display for Score {
+    fn fmt<W: Write>(&self, f: &mut Formatter<W>) -> fmt::Result {
+        let Score {
+            sheets,
+            agree,
+            differ,
+            first,
+        } = *self;
+        write!(
+            f,
+            "{sheets} sheets, {agree} examples agree, {differ} differ"
+        )?;
+        if let Some(first) = first {
+            write!(f, "\nthe first that differs is {first}")?;
         }
-        i = end;
-    }
-    i
-}
-
-// The end of what is begun; a line that begins nothing is followed by an empty part.
-fn part_end(text: &[u8], at: usize, b: Block) -> usize
-    requires { at ≤ length text.now }
-    ensures { (at ≤ result) × (result ≤ length text.now) }
-{
-    match b {
-        Block::None => at,
-        _ => block_end(text, at),
+        Ok(())
     }
 }
 
-// Where the text goes on behind it: after the line that ends the block.
-fn behind(text: &[u8], at: usize, b: Block) -> usize
-    requires { at ≤ length text.now }
-    ensures { (at ≤ result) × (result ≤ length text.now) }
-{
-    match b {
-        Block::None => at,
-        _ => line_end(text, at),
+// The kind of the block that a line begins.
+fn kind_of(line: &[u8]) -> Option<Kind> {
+    match line.strip_prefix(b"```")? {
+        b"sheet\n" => Some(Kind::Sheet),
+        b"answer\n" => Some(Kind::Answer),
+        b"right\n" => Some(Kind::Paper(Mark::Right)),
+        b"wrong\n" => Some(Kind::Paper(Mark::Wrong)),
+        _ => Some(Kind::Other),
     }
 }
 
-// Are the first n bytes of the buffer those of the block?
-fn front_is(buf: &[u8], n: usize, block: &[u8]) -> bool
-    requires { n ≤ length buf.now }
+// The first line, its byte 10 with it, and what stands behind it.
+fn split_line(text: &[u8]) -> (&[u8], &[u8])
+    ensures { length result.1.now ≤ length text.now - 1 }
 {
-    check::same(&buf[..n], block)
+    let end = text.iter().position(|byte| *byte == b'\n');
+    text.split_at(end.map_or(text.len(), |i| i + 1))
 }
 
-fn refusal_is(number: u8, block: &[u8]) -> bool {
-    let mut line: [u8; 6] = [0; 6];
-    let n = put_refusal(&mut line, number);
-    front_is(&line, n, block)
+// What stands before the next line with three backquotes, and that line with what is behind it.
+fn split_block(text: &[u8]) -> (&[u8], &[u8])
+    ensures { length result.1.now ≤ length text.now }
+{
+    let mut rest = text;
+    while !rest.is_empty() && !rest.starts_with(b"```") {
+        rest = split_line(rest).1;
+    }
+    text.split_at(text.len() - rest.len())
 }
 
-// Is the block what finish prints for the answer?
-fn printed_is(answer: Answer, out: &[u8], block: &[u8]) -> bool
-    requires { answer_length answer ≤ length out.now }
-{
-    match answer {
-        Answer::Finished(f) => front_is(out, f.length, block),
-        Answer::Refused(number) => refusal_is(number, block),
+impl<'a> Iterator for Blocks<'a> {
+    type Item = Block<'a>;
+
+    ghost remaining = { λ s. at_most (length s.rest.now) };
+
+    fn next(&mut self) -> Option<Block<'a>> {
+        while !self.rest.is_empty() {
+            let (line, below) = split_line(self.rest);
+            self.rest = below;
+            if let Some(kind) = kind_of(line) {
+                let (text, behind) = split_block(below);
+                self.rest = split_line(behind).1;
+                return Some(Block { kind, text });
+            }
+        }
+        None
     }
 }
 
+// Is the block what finish prints for the sheet?
 fn answer_is(sheet: &[u8], block: &[u8]) -> bool {
-    let mut out: [u8; 16384] = [0; 16384];
-    let answer = engine::finish(sheet, &mut out);
-    printed_is(answer, &out, block)
-}
-
-// Is the paper marked as right, or as wrong, as the guide has it?
-fn mark_is(sheet: &[u8], paper: &[u8], right: bool) -> bool {
-    let mut out: [u8; 16384] = [0; 16384];
-    match marking::mark(sheet, paper, &mut out) {
-        Mark::Right => right,
-        Mark::Wrong => !right,
-        Mark::Refused(number) => false,
-    }
-}
-
-fn agreement(good: bool) -> Found {
-    if good { Found::Agrees } else { Found::Differs }
-}
-
-fn find(b: Block, sheet: &[u8], block: &[u8]) -> Found {
-    match b {
-        Block::None => Found::Nothing,
-        Block::Other => Found::Nothing,
-        Block::Sheet => Found::Sheet,
-        Block::Answer => agreement(answer_is(sheet, block)),
-        Block::Right => agreement(mark_is(sheet, block, true)),
-        Block::Wrong => agreement(mark_is(sheet, block, false)),
-    }
-}
-
-fn more(n: u64) -> u64 {
-    n.wrapping_add(1)
-}
-
-fn differing(s: Score) -> Score {
-    if s.differ == 0 {
-        return Score {
-            sheets: s.sheets,
-            agree: s.agree,
-            differ: 1,
-            first: more(s.agree),
-        };
-    }
-    Score {
-        sheets: s.sheets,
-        agree: s.agree,
-        differ: more(s.differ),
-        first: s.first,
-    }
-}
-
-fn counted(s: Score, found: Found) -> Score {
-    match found {
-        Found::Nothing => s,
-        Found::Sheet => Score {
-            sheets: more(s.sheets),
-            agree: s.agree,
-            differ: s.differ,
-            first: s.first,
-        },
-        Found::Agrees => Score {
-            sheets: s.sheets,
-            agree: more(s.agree),
-            differ: s.differ,
-            first: s.first,
-        },
-        Found::Differs => differing(s),
-    }
-}
-
-fn is_sheet(b: Block) -> bool {
-    match b {
-        Block::Sheet => true,
-        _ => false,
-    }
-}
-
-// The last sheet is the guide from the place `from` up to the place `to`.
-fn run_all(text: &[u8]) -> Score {
-    let mut s = Score {
-        sheets: 0,
-        agree: 0,
-        differ: 0,
-        first: 0,
-    };
-    let mut from: usize = 0;
-    let mut to: usize = 0;
-    let mut at: usize = 0;
-    while at < text.len() {
-        let end = line_end(text, at);
-        let b = block_of(&text[at..end]);
-        let close = part_end(text, end, b);
-        s = counted(s, find(b, &text[from..to], &text[end..close]));
-        if is_sheet(b) {
-            from = end;
-            to = close;
+    let mut out = [0; 16384];
+    match engine::finish(sheet, &mut out) {
+        Ok(finished) => &out[..finished.length] == block,
+        Err(refusal) => {
+            let mut line = [0; 6];
+            let n = put_refusal(&mut line, refusal);
+            &line[..n] == block
         }
-        at = behind(text, close, b);
     }
-    s
 }
 
-fn report(rt: &impl Print, s: Score) -> io::Result<()> {
-    let sheets = s.sheets;
-    let agree = s.agree;
-    let differ = s.differ;
-    println!(rt; "{sheets} sheets, {agree} examples agree, {differ} differ")?;
-    if differ != 0 {
-        let first = s.first;
-        println!(rt; "the first that differs is {first}")?;
+// Is the paper marked as the guide has it?
+fn mark_is(sheet: &[u8], paper: &[u8], mark: Mark) -> bool {
+    let mut out = [0; 16384];
+    marking::mark(sheet, paper, &mut out) == Ok(mark)
+}
+
+fn run_all(guide: &[u8]) -> Score {
+    let mut score = Score::default();
+    let mut sheet: &[u8] = &[];
+    let blocks = Blocks { rest: guide };
+    for Block { kind, text } in blocks {
+        match kind {
+            Kind::Sheet => {
+                score.count_sheet();
+                sheet = text;
+            }
+            Kind::Answer => score.count(answer_is(sheet, text)),
+            Kind::Paper(mark) => score.count(mark_is(sheet, text, mark)),
+            Kind::Other => {}
+        }
     }
-    Ok(())
+    score
 }
 
 fn main(rt: HostRuntime) -> io::Result<()> {
-    let mut buf: [u8; 65536] = [0; 65536];
-    let guide = read_path(&rt, b"GUIDE.md", &mut buf);
-    if guide.failed {
+    let mut buf = [0; 65536];
+    let Some(n) = read_path(&rt, b"GUIDE.md", &mut buf) else {
         return Ok(());
-    }
-    let n = guide.length;
-    report(&rt, run_all(&buf[..n]))
+    };
+    let score = run_all(&buf[..n]);
+    println!(rt; "{score}")
 }

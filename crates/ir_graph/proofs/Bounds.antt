@@ -12,7 +12,9 @@ use Rattle.plan.specs.Faults.{named}
 use Rattle.plan.specs.declared.ir.IR.{IR}
 use Rattle.plan.specs.Kinds.{same_ir}
 use Rattle.plan.specs.Graph.{sinks, is_cache}
-use Rattle.storage.specs.Stored.{stored_step, stored_steps, StepFormed}
+use Rattle.storage.specs.Stored.{stored_step, stored_steps}
+use Rattle.storage.specs.Held.{steps_in}
+use Rattle.storage.specs.declared.stored.Steps.{Steps}
 use Rattle.storage.proofs.Laws.{table_at, length_steps}
 use Rattle.claims.specs.Plan.{Plan}
 use Rattle.claims.proofs.Sizes.{few_sinks}
@@ -60,11 +62,16 @@ module _ (bytes : List ℕ) (n : ℕ) where
   pub cache_there : (i : ℕ) → i < n → is_cache (stored_steps bytes n) i ≡ cached bytes i
   cache_there i h = ap (λ (s : Step). same_ir s.kind IR.Cache) (step_there i h)
 
-  module _ (small : n ≤ 32) (plan : Plan (stored_steps bytes n)) (formed : (i : ℕ) → i < n → StepFormed bytes i) where
-    pub namings : length (named (stored_steps bytes n)) ≤ 248
-    namings =
-        few_named (stored_steps bytes n) plan (omega (arith, length_steps bytes n))
-        (λ i h. let l : i < n = omega (arith, length_steps bytes n) in rw (step_there i l) (few_inputs bytes i (formed i l)))
+module _ (stored : Steps) (plan : Plan (steps_in stored)) where
+  size : length (steps_in stored) ≡ stored.count
+  size = length_steps stored.bytes stored.count
 
-    pub roots : length (sinks (stored_steps bytes n)) ≤ 32
-    roots = omega (arith, few_sinks (stored_steps bytes n), length_steps bytes n)
+  pub namings : length (named (steps_in stored)) ≤ 248
+  namings =
+      few_named (steps_in stored) plan (omega (arith, size, stored.held.few))
+      (λ i h.
+      let l : i < stored.count = omega (arith, size) in
+      rw (step_there stored.bytes stored.count i l) (few_inputs stored.bytes i (stored.held.formed i l)))
+
+  pub roots : length (sinks (steps_in stored)) ≤ 32
+  roots = omega (arith, few_sinks (steps_in stored), size, stored.held.few)

@@ -2,12 +2,11 @@
 use mathlib.Core.Path.{◌≡◌, refl, sym, ap, ap₂, ◌∙◌}
 use mathlib.Core.List.{List, [], ◌∷◌, ◌++◌}
 use Prim.Native.Nat.{ℕ, suc, ◌+◌, ◌≤◌, ◌<◌}
-use native.Mathlib.Omega.{arith}
 use native.Mathlib.Numerals.{add-one}
 use mathlib.Core.Bool.{true, false, ◌&&◌}
 use lib.Dec.{eqb}
-use lib.ListN.{length, get_or, take, drop, set, length-take, drop_of_length-le}
-use lib.Seq.{drop-cons, get_or-take}
+use lib.ListN.{length, get_or, take, drop, set, drop_of_length-le}
+use lib.Seq.{drop-cons, take-suc-set}
 use Rattle.plan.specs.Sheet.{Step}
 use Rattle.plan.specs.Graph.{one_id, first_met, popped, key}
 use Rattle.storage.specs.Stored.{table, stored_step, stored_steps}
@@ -17,7 +16,6 @@ use Rattle.claims.proofs.MergedPlan.{key_first}
 use Rattle.ir_graph.specs.Turns.{cached}
 use Rattle.ir_graph.specs.UpdateCaches.{first_lines}
 use Rattle.ir_graph.proofs.Bounds.{step_there}
-use Rattle.ir_graph.proofs.Pushing.{pushed_one}
 use Rattle.storage.proofs.Laws.{one_entry_more}
 
 -- Two lines with one id ----------------------------------------------------------------------------------------------------------
@@ -27,42 +25,26 @@ module _ (bytes : List ℕ) (n : ℕ) where
   ps = stored_steps bytes n
 
   module _ (k m : ℕ) (here : k < n) (there : m < n) where
-    by_kinds : one_id ps k m ≡ (cached bytes k && cached bytes m && eqb (stored_step bytes k).a (stored_step bytes m).a)
+    pub by_kinds : one_id ps k m ≡ (cached bytes k && cached bytes m && eqb (stored_step bytes k).a (stored_step bytes m).a)
     by_kinds = rw (step_there bytes n k here, step_there bytes n m there)
-
-    pub other_kind : cached bytes k ≡ false → false ≡ one_id ps k m
-    other_kind e = rw (by_kinds, e)
-
-    pub other_second : cached bytes k ≡ true → cached bytes m ≡ false → false ≡ one_id ps k m
-    other_second e f = rw (by_kinds, e, f)
-
-    pub by_id : {x y : ℕ} → cached bytes k ≡ true → cached bytes m ≡ true → x ≡ (stored_step bytes k).a → y ≡ (stored_step bytes m).a → eqb x y ≡ one_id ps k m
-    by_id e f a b = rw (by_kinds, e, f, a, b)
 
 -- Going through the steps met ----------------------------------------------------------------------------------------------------
 
-module _ (ps : List Step) (met : List ℕ) (turns m : ℕ) (few : turns ≤ length met) where
-  -- what is left of them
-  abbrev left : ℕ → List ℕ
-  left k = drop k (take turns met)
+module _ (ps : List Step) (met : List ℕ) (m : ℕ) where
+  next : (k : ℕ) → k < length met → drop k met ≡ get_or met k 0 ∷ drop (suc k) met
+  next k h = drop-cons met k 0 h
 
-  length_met : length (take turns met) ≡ turns
-  length_met = simp length-take (omega arith)
-
-  next : (k : ℕ) → k < turns → left k ≡ get_or met k 0 ∷ left (suc k)
-  next k h = drop-cons (take turns met) k 0 (omega (arith, length_met)) ∙ ap (λ (x : ℕ). x ∷ left (suc k)) (get_or-take turns met k 0 h)
-
-  pub met_here : (k : ℕ) → k < turns → one_id ps (get_or met k 0) m ≡ true → first_met ps (left k) m ≡ get_or met k 0
+  pub met_here : (k : ℕ) → k < length met → one_id ps (get_or met k 0) m ≡ true → first_met ps (drop k met) m ≡ get_or met k 0
   unfolding first_met
   met_here k h e = rw (next k h, e)
 
-  pub met_later : (k : ℕ) → k < turns → one_id ps (get_or met k 0) m ≡ false → first_met ps (left (k + 1)) m ≡ first_met ps (left k) m
+  pub met_later : (k : ℕ) → k < length met → one_id ps (get_or met k 0) m ≡ false → first_met ps (drop (k + 1) met) m ≡ first_met ps (drop k met) m
   unfolding first_met
   met_later k h e = rw (add-one, next k h, e)
 
-  pub none_met : (k : ℕ) → turns ≤ k → first_met ps (left k) m ≡ m
+  pub none_met : (k : ℕ) → length met ≤ k → first_met ps (drop k met) m ≡ m
   unfolding first_met
-  none_met k h = rw (drop_of_length-le (take turns met) {i = k} (omega (arith, length_met)))
+  none_met k h = rw (drop_of_length-le met {i = k} h)
 
 -- The table ----------------------------------------------------------------------------------------------------------------------
 
@@ -73,7 +55,7 @@ none_noted f first = refl
 pub one_noted : (f : ℕ → ℕ) (first : List ℕ) (m v : ℕ) → m < length first → take m first ≡ table f 0 m → v ≡ f m
     → take (m + 1) (set first m v) ≡ table f 0 (m + 1)
 one_noted f first m v h e q =
-    (pushed_one first m v h).entries ∙ ap₂ (λ (l : List ℕ) (x : ℕ). l ++ (x ∷ [])) e q ∙ sym (one_entry_more f m)
+    rw add-one (take-suc-set first m v h) ∙ ap₂ (λ (l : List ℕ) (x : ℕ). l ++ (x ∷ [])) e q ∙ sym (one_entry_more f m)
 
 pub all_noted : (bytes : List ℕ) (n : ℕ) → Plan (stored_steps bytes n) → (met first : List ℕ) (m : ℕ) → met ≡ popped (stored_steps bytes n) → m ≡ n
     → take m first ≡ table (first_met (stored_steps bytes n) met) 0 m → take n first ≡ first_lines (stored_steps bytes n)

@@ -9,8 +9,8 @@ use mathlib.Core.Bool.{Bool, true, false, ◌&&◌}
 use mathlib.Core.List.Memᴰ
 use mathlib.Core.List.{List, [], ◌∷◌, ◌++◌, reverse, reverse-append, Memᴰ}
 use lib.Dec.{T, eqb, ltb, ltb→lt, lt→ltb}
-use lib.ListN.{length, get_or, take, set, replicate, length-append, length-reverse, length-take, length-set}
-use lib.Seq.{take-suc, get_or-set_same, get_or-set_other, get_or-take}
+use lib.ListN.{length, get_or, set, replicate, length-append, length-reverse, length-set}
+use lib.Seq.{get_or-set_same, get_or-set_other}
 use Rattle.plan.specs.declared.ir.IR.{IR}
 use Rattle.plan.specs.Kinds.{same_ir}
 use Rattle.plan.specs.Lists.{any?, sum, among, times}
@@ -19,58 +19,47 @@ use Rattle.plan.specs.Faults.{named}
 use Rattle.plan.specs.Graph.{sinks, is_cache, most_places, key, hits}
 use Rattle.plan.specs.Graph as def
 use Rattle.storage.specs.Stored.{stored_step, stored_steps, StepFormed}
+use Rattle.storage.specs.Held.{steps_in}
+use Rattle.storage.specs.declared.stored.Steps.{Steps}
+use Rattle.claims.specs.Plan.{Plan}
 use Rattle.plan.proofs.ListLaws.{sum_append}
 use Rattle.storage.proofs.Laws.{length_steps}
 use Rattle.plan.proofs.Booleans.{T_eq}
 use Rattle.plan.proofs.Counts.{T_of, not_both, sum_reverse, sum_le, sum_ones, times_same, times_other, mem_reverse, mem_at, only, among_times, times_among}
-use Rattle.claims.specs.Plan.{Plan}
 use Rattle.claims.proofs.ByLine.{pushes, pop, popped}
 use Rattle.claims.proofs.MergedPlan.{popped_own, hits_own}
 use Rattle.claims.proofs.Plans.{root_there, input_there, cache_named}
 use Rattle.claims.proofs.Reached.{followed_le, followed_none}
 use Rattle.claims.proofs.Hits.{Counted, counted_next}
-use Rattle.ir_graph.specs.Pushed.{Pushed}
 use Rattle.ir_graph.specs.Turns.{cached, pushed_by, hit}
 use Rattle.ir_graph.specs.Hits.{HitsCounted, MetNoted}
 use Rattle.ir_graph.proofs.Bounds.{step_there, cache_there, namings, roots}
-use Rattle.ir_graph.proofs.Pushing.{pushed_one}
 
--- `met` was popped and is noted in `order`, the first `len` bytes of `stack` wait, and what is left of the pass comes to the whole of it
-pub record Popping (ps : List Step) (stack counts order : List ℕ) (len turns : ℕ) : Type 0 where
-  pub met : List ℕ
+-- `met` was popped, `stack` waits, and what is left of the pass comes to the whole of it
+pub record Popping (ps : List Step) (stack counts met : List ℕ) : Type 0 where
   pub fuel : ℕ
-  pub popped_so_far : turns ≡ length met
-  pub noted : take turns order ≡ met
+  pub left : length met + fuel ≡ most_places ps
+  pub ends : pop fuel ps met (reverse stack) ≡ popped ps
+  pub counted : Counted ps met (reverse stack)
   pub met_there : (m : ℕ) → Memᴰ m met → m < length ps
-  pub left : turns + fuel ≡ most_places ps
-  pub ends : pop fuel ps met (reverse (take len stack)) ≡ popped ps
-  pub counted : Counted ps met (reverse (take len stack))
-  pub there : (m : ℕ) → Memᴰ m (take len stack) → m < length ps
+  pub there : (m : ℕ) → Memᴰ m stack → m < length ps
   pub caches : (m : ℕ) → T (is_cache ps m) → get_or counts m 0 ≡ times m met
   pub others : (m : ℕ) → is_cache ps m ≡ false → get_or counts m 0 ≡ 0
-  pub room : length stack ≡ 288
-  pub fits : len ≤ 288
   pub size : length counts ≡ 32
-  pub order_size : length order ≡ 288
 
--- what a turn at the step `top` may rely on, with k waiting below it
-pub record Turn (bytes : List ℕ) (n : ℕ) (counts : List ℕ) (k turns top : ℕ) : Type 0 where
-  pub there : top < n
+-- what a turn at the step `top` may rely on, with `rest` waiting below it
+pub record Turn (bytes : List ℕ) (n : ℕ) (counts rest met : List ℕ) (top : ℕ) : Type 0 where
+  pub line : top < 32
   pub formed : StepFormed bytes top
   pub hit : T (cached bytes top) → get_or counts top 0 < 255
-  pub room : k + length (pushed_by bytes counts top) ≤ 288
-  pub left : turns < most_places (stored_steps bytes n)
-  pub few : turns < 280
+  pub room : length rest + length (pushed_by bytes counts top) ≤ 288
+  pub left : length met < most_places (stored_steps bytes n)
+  pub few : length met < 280
 
 pub zeros : (n i : ℕ) → ◌≡◌ {A = ℕ} (get_or (replicate n 0) i 0) 0
 zeros zero i = refl
 zeros (suc n) zero = refl
 zeros (suc n) (suc i) = zeros n i
-
--- the last of a list, popped
-pub last_first : (l : List ℕ) (k len : ℕ) → len ≡ suc k → len ≤ length l → reverse (take len l) ≡ get_or l k 0 ∷ reverse (take k l)
-last_first l k len e h =
-    ap (λ (j : ℕ). reverse (take j l)) e ∙ rw (take-suc l k 0 (omega arith), reverse-append (take k l) (get_or l k 0 ∷ [])) refl
 
 times_few : (n : ℕ) (l : List ℕ) → times n l ≤ length l
 times_few n l = omega (arith, sum_le (only n) (λ _. 1) l (λ m _. by (eqb n m)), sum_ones l)
@@ -79,46 +68,39 @@ times_few n l = omega (arith, sum_le (only n) (λ _. 1) l (λ m _. by (eqb n m))
     by true = omega arith
     by false = omega arith
 
-module _ (bytes : List ℕ) (n : ℕ) (small : n ≤ 32) (plan : Plan (stored_steps bytes n)) (formed : (i : ℕ) → i < n → StepFormed bytes i) where
+module _ (stored : Steps) (plan : Plan (steps_in stored)) where
   abbrev ps : List Step
-  ps = stored_steps bytes n
+  ps = steps_in stored
 
   -- what was popped and what waits has room
   few : (met stack : List ℕ) → Counted ps met stack → length met + length stack ≤ most_places ps
   few met stack c =
       omega (arith, c (λ _. 1), followed_le (λ _. 1) ps (λ m. among m met), sum_ones met, sum_ones stack, sum_ones (sinks ps), sum_ones (named ps))
 
-  pub begins : (stack stack₀ counts order : List ℕ) (len : ℕ) → length stack₀ ≡ 288 → length counts ≡ 32 → length order ≡ 288 → ((i : ℕ) → get_or counts i 0 ≡ 0)
-      → Pushed (sinks ps) stack₀ 0 stack len → Popping ps stack counts order len 0
+  pub begins : {stack counts : List ℕ} → length counts ≡ 32 → ((i : ℕ) → get_or counts i 0 ≡ 0) → stack ≡ sinks ps → Popping ps stack counts []
   unfolding popped sum any?
-  begins stack stack₀ counts order len r s o z p =
+  begins s z e =
       record {
-        met = [];
         fuel = most_places ps;
-        popped_so_far = refl;
-        noted = refl;
-        met_there = λ m i. absurd (Memᴰ.not-nil i);
         left = omega arith;
-        ends = rw p.entries;
-        counted = rw p.entries (λ w. omega (arith, none w, sum_reverse w (sinks ps), followed_none w ps (λ n. among n []) (λ n. refl)));
-        there = rw p.entries (root_there ps plan);
+        ends = rw e;
+        counted = rw e (λ w. omega (arith, none w, sum_reverse w (sinks ps), followed_none w ps (λ n. among n []) (λ n. refl)));
+        met_there = λ m i. absurd (Memᴰ.not-nil i);
+        there = rw e (root_there ps plan);
         caches = λ m t. z m;
         others = λ m e. z m;
-        room = p.size ∙ r;
-        fits = omega (arith, p.len, roots bytes n small plan formed);
         size = s;
-        order_size = o;
       }
     where
       none : (w : ℕ → ℕ) → sum w [] ≡ 0
       none w = refl
 
-  module _ (stack counts order : List ℕ) (len turns : ℕ) (p : Popping ps stack counts order len turns) (e : len ≡ 0) where
-    all_met : p.met ≡ popped ps
+  module _ {stack counts met : List ℕ} (p : Popping ps stack counts met) (e : stack ≡ []) where
+    all_met : met ≡ popped ps
     unfolding pop
     all_met = by p.fuel (rw e at p.ends)
       where
-        by : (f : ℕ) → pop f ps p.met (reverse (take 0 stack)) ≡ popped ps → p.met ≡ popped ps
+        by : (f : ℕ) → pop f ps met (reverse []) ≡ popped ps → met ≡ popped ps
         by zero q = q
         by (suc f) q = q
 
@@ -129,100 +111,86 @@ module _ (bytes : List ℕ) (n : ℕ) (small : n ≤ 32) (plan : Plan (stored_st
         by m true e = p.caches m (T_of (is_cache ps m) e) ∙ ap (times m) all_met ∙ sym (hits_own ps plan m)
         by m false e = p.others m e
 
-    pub turns_ended : turns ≡ length (def.popped ps)
-    turns_ended = p.popped_so_far ∙ ap length (all_met ∙ sym (popped_own ps plan))
-
-    pub noted_ended : MetNoted ps order turns
+    pub noted_ended : MetNoted ps met
     noted_ended =
-        let few : turns ≤ 288 = omega (arith, p.popped_so_far, p.left, namings bytes n small plan formed, roots bytes n small plan formed) in
         record {
-          order = p.noted ∙ all_met ∙ sym (popped_own ps plan);
-          few = few;
-          there =
-              λ k h.
-              subst (λ (m : ℕ). m < length ps) (get_or-take turns order k 0 h)
-              (p.met_there _ (subst (Memᴰ _) p.noted (mem_at (take turns order) k 0 (simp length-take (omega (arith, few, p.order_size))))));
+          order = all_met ∙ sym (popped_own ps plan);
+          few = omega (arith, p.left, namings stored plan, roots stored plan);
+          there = λ k h. p.met_there _ (mem_at met k 0 h);
         }
 
   -- One turn: the step on top of the stack ---------------------------------------------------------------------------------------
 
-  module _ (stack counts order : List ℕ) (len turns k : ℕ) (p : Popping ps stack counts order len turns) (e : len ≡ suc k) where
-    abbrev top : ℕ
-    top = get_or stack k 0
+  module _ {stack counts met : List ℕ} (rest : List ℕ) (top : ℕ) (p : Popping ps stack counts met) (e : stack ≡ rest ++ (top ∷ [])) where
+    waits : reverse stack ≡ top ∷ reverse rest
+    waits = rw (e, reverse-append rest (top ∷ [])) refl
 
-    waits : reverse (take len stack) ≡ top ∷ reverse (take k stack)
-    waits = last_first stack k len e (omega (arith, p.fits, p.room))
-
-    counted_top : Counted ps p.met (top ∷ reverse (take k stack))
+    counted_top : Counted ps met (top ∷ reverse rest)
     counted_top = rw waits at p.counted
 
-    top_there : top < n
-    top_there =
-        omega (arith, length_steps bytes n, p.there top (mem_reverse top (take len stack) (rw waits (Memᴰ.head refl))))
+    top_there : top < stored.count
+    top_there = omega (arith, length_steps stored.bytes stored.count, p.there top (mem_reverse top stack (rw waits (Memᴰ.head refl))))
 
     abbrev new : List ℕ
-    new = pushed_by bytes counts top
+    new = pushed_by stored.bytes counts top
 
-    pushes_new : pushes ps p.met top ≡ new
-    unfolding pushes pushed_by
+    pushes_new : pushes ps met top ≡ new
+    unfolding pushes
     pushes_new =
-        ap (λ (s : Step). if same_ir s.kind IR.Cache && among top p.met then [] else s.inputs) (step_there bytes n top top_there)
-        ∙ by (cached bytes top) (λ t. p.caches top (subst T (sym (cache_there bytes n top top_there)) t))
+        ap (λ (s : Step). if same_ir s.kind IR.Cache && among top met then [] else s.inputs) (step_there stored.bytes stored.count top top_there)
+        ∙ by (cached stored.bytes top) (λ t. p.caches top (subst T (sym (cache_there stored.bytes stored.count top top_there)) t))
       where
-        by : (b : Bool) → (T b → get_or counts top 0 ≡ times top p.met)
-            → (if b && among top p.met then [] else (stored_step bytes top).inputs) ≡ (if b && ltb 0 (get_or counts top 0) then [] else (stored_step bytes top).inputs)
+        by : (b : Bool) → (T b → get_or counts top 0 ≡ times top met)
+            → (if b && among top met then [] else (stored_step stored.bytes top).inputs) ≡ (if b && ltb 0 (get_or counts top 0) then [] else (stored_step stored.bytes top).inputs)
         by false h = refl
         by true h =
-            ap (λ (b : Bool). if b then [] else (stored_step bytes top).inputs)
-            (T_eq (among top p.met) (ltb 0 (get_or counts top 0))
-            (λ t. lt→ltb 0 (get_or counts top 0) (omega (arith, h tt, among_times top p.met t)))
-            (λ t. times_among top p.met (omega (arith, h tt, ltb→lt 0 (get_or counts top 0) t))))
+            ap (λ (b : Bool). if b then [] else (stored_step stored.bytes top).inputs)
+            (T_eq (among top met) (ltb 0 (get_or counts top 0))
+            (λ t. lt→ltb 0 (get_or counts top 0) (omega (arith, h tt, among_times top met t)))
+            (λ t. times_among top met (omega (arith, h tt, ltb→lt 0 (get_or counts top 0) t))))
 
-    counted_new : Counted ps (p.met ++ (top ∷ [])) (reverse new ++ reverse (take k stack))
-    counted_new = rw (← pushes_new) (counted_next ps plan p.met (reverse (take k stack)) top (omega (arith, length_steps bytes n, top_there)) counted_top)
+    counted_new : Counted ps (met ++ (top ∷ [])) (reverse new ++ reverse rest)
+    counted_new = rw (← pushes_new) (counted_next ps plan met (reverse rest) top (omega (arith, length_steps stored.bytes stored.count, top_there)) counted_top)
 
-    length_rest : length (reverse (take k stack)) ≡ k
-    length_rest = simp (length-reverse, length-take) (omega (arith, p.fits, p.room))
-
-    all_fit : length p.met + 1 + length new + k ≤ most_places ps
+    all_fit : length met + 1 + length new + length rest ≤ most_places ps
     all_fit =
-        let f = few (p.met ++ (top ∷ [])) (reverse new ++ reverse (take k stack)) counted_new in
-        omega (arith, f, length-append p.met (top ∷ []), length-append (reverse new) (reverse (take k stack)), length-reverse new, length_rest)
+        let f = few (met ++ (top ∷ [])) (reverse new ++ reverse rest) counted_new in
+        omega (arith, f, length-append met (top ∷ []), length-append (reverse new) (reverse rest), length-reverse new, length-reverse rest)
 
-    room_new : k + length new ≤ 288
-    room_new = omega (arith, all_fit, namings bytes n small plan formed, roots bytes n small plan formed)
+    room_new : length rest + length new ≤ 288
+    room_new = omega (arith, all_fit, namings stored plan, roots stored plan)
 
-    hit_fits : T (cached bytes top) → get_or counts top 0 < 255
+    hit_fits : T (cached stored.bytes top) → get_or counts top 0 < 255
     hit_fits t =
-        let c = subst T (sym (cache_there bytes n top top_there)) t in
+        let c = subst T (sym (cache_there stored.bytes stored.count top top_there)) t in
         omega (
           arith,
           p.caches top c,
           counted_top (only top),
-          times_same top (reverse (take k stack)),
-          followed_le (only top) ps (λ m. among m p.met),
+          times_same top (reverse rest),
+          followed_le (only top) ps (λ m. among m met),
           cache_named ps plan top c,
           times_few top (named ps),
-          namings bytes n small plan formed,
+          namings stored plan,
         )
 
-    pub turn : Turn bytes n counts k turns top
+    pub turn : Turn stored.bytes stored.count counts rest met top
     turn =
         record {
-          there = top_there;
-          formed = formed top top_there;
+          line = omega (arith, top_there, stored.held.few);
+          formed = stored.held.formed top top_there;
           hit = hit_fits;
           room = room_new;
-          left = omega (arith, p.popped_so_far, all_fit);
-          few = omega (arith, p.popped_so_far, all_fit, namings bytes n small plan formed, roots bytes n small plan formed);
+          left = omega (arith, all_fit);
+          few = omega (arith, all_fit, namings stored plan, roots stored plan);
         }
 
-    counts_next : (m : ℕ) → T (is_cache ps m) → get_or (hit bytes counts top) m 0 ≡ times m (p.met ++ (top ∷ []))
-    unfolding hit sum
+    counts_next : (m : ℕ) → T (is_cache ps m) → get_or (hit stored.bytes counts top) m 0 ≡ times m (met ++ (top ∷ []))
+    unfolding sum
     counts_next m t = by (ℕ_discrete m top)
       where
-        more : times m (p.met ++ (top ∷ [])) ≡ times m p.met + times m (top ∷ [])
-        more = sum_append (only m) p.met (top ∷ [])
+        more : times m (met ++ (top ∷ [])) ≡ times m met + times m (top ∷ [])
+        more = sum_append (only m) met (top ∷ [])
 
         other : (b : Bool) → m ≢ top → get_or (if b then set counts top (get_or counts top 0 + 1) else counts) m 0 ≡ get_or counts m 0
         other true h = get_or-set_other counts top m (get_or counts top 0 + 1) 0 h
@@ -233,74 +201,63 @@ module _ (bytes : List ℕ) (n : ℕ) (small : n ≤ 32) (plan : Plan (stored_st
             rw i (get_or-set_same counts top (get_or counts top 0 + 1) 0 (omega (arith, p.size, top_there)))
         same false h i = absurd h
 
-        by : Dec (m ≡ top) → get_or (hit bytes counts top) m 0 ≡ times m (p.met ++ (top ∷ []))
+        by : Dec (m ≡ top) → get_or (hit stored.bytes counts top) m 0 ≡ times m (met ++ (top ∷ []))
         by (yes i) =
-            let b = subst T (cache_there bytes n top top_there) (subst (λ x. T (is_cache ps x)) i t) in
+            let b = subst T (cache_there stored.bytes stored.count top top_there) (subst (λ x. T (is_cache ps x)) i t) in
             let one : times m (top ∷ []) ≡ 1 = subst (λ x. times m (x ∷ []) ≡ 1) i (times_same m []) in
-            same (cached bytes top) b i ∙ omega (arith, p.caches m t, more, one)
+            same (cached stored.bytes top) b i ∙ omega (arith, p.caches m t, more, one)
         by (no h) =
             let none : times m (top ∷ []) ≡ 0 = times_other m top [] h in
-            other (cached bytes top) h ∙ omega (arith, p.caches m t, more, none)
+            other (cached stored.bytes top) h ∙ omega (arith, p.caches m t, more, none)
 
-    others_next : (m : ℕ) → is_cache ps m ≡ false → get_or (hit bytes counts top) m 0 ≡ 0
-    unfolding hit
-    others_next m e = by (cached bytes top) refl
+    others_next : (m : ℕ) → is_cache ps m ≡ false → get_or (hit stored.bytes counts top) m 0 ≡ 0
+    others_next m e = by (cached stored.bytes top) refl
       where
-        by : (b : Bool) → cached bytes top ≡ b → get_or (if b then set counts top (get_or counts top 0 + 1) else counts) m 0 ≡ 0
+        by : (b : Bool) → cached stored.bytes top ≡ b → get_or (if b then set counts top (get_or counts top 0 + 1) else counts) m 0 ≡ 0
         by true c =
-            let apart : m ≢ top = λ i. not_both (is_cache ps m) (T_of (is_cache ps m) (ap (is_cache ps) i ∙ cache_there bytes n top top_there ∙ c)) e in
+            let apart : m ≢ top = λ i. not_both (is_cache ps m) (T_of (is_cache ps m) (ap (is_cache ps) i ∙ cache_there stored.bytes stored.count top top_there ∙ c)) e in
             get_or-set_other counts top m (get_or counts top 0 + 1) 0 apart ∙ p.others m e
         by false c = p.others m e
 
-    pub popping_next : (stack' counts' : List ℕ) (r : ℕ) → Pushed new stack k stack' r → counts' ≡ hit bytes counts top
-        → Popping ps stack' counts' (set order turns top) r (turns + 1)
-    unfolding pop hit pushes
-    popping_next stack' counts' r q h =
+    pub popping_next : {stack' counts' : List ℕ} → stack' ≡ rest ++ new → counts' ≡ hit stored.bytes counts top → Popping ps stack' counts' (met ++ (top ∷ []))
+    unfolding pop pushes
+    popping_next q h =
         let (f, g) = some_fuel p.fuel p.left in
         record {
-          met = p.met ++ (top ∷ []);
           fuel = f;
-          popped_so_far = omega (arith, p.popped_so_far, length-append p.met (top ∷ []));
-          noted = (pushed_one order turns top (omega (arith, turn.few, p.order_size))).entries ∙ ap (λ (l : List ℕ). l ++ (top ∷ [])) p.noted;
+          left = omega (arith, p.left, g, length-append met (top ∷ []));
+          ends =
+              rw (q, reverse-append rest new)
+              (subst (λ (l : List ℕ). pop f ps (met ++ (top ∷ [])) (reverse l ++ reverse rest) ≡ popped ps) pushes_new
+              (subst (λ (x : ℕ). pop x ps met (top ∷ reverse rest) ≡ popped ps) g (rw waits at p.ends)));
+          counted = rw (q, reverse-append rest new) counted_new;
           met_there =
               λ m i.
-              elim (Memᴰ.append_cases p.met i) [
+              elim (Memᴰ.append_cases met i) [
                 | inl j ↦ p.met_there m j
-                | inr j ↦ elim (Memᴰ.cases_cons j) [ inl q ↦ omega (arith, q, length_steps bytes n, top_there) | inr q ↦ absurd (Memᴰ.not-nil q) ]
+                | inr j ↦ elim (Memᴰ.cases_cons j) [ inl q ↦ omega (arith, q, length_steps stored.bytes stored.count, top_there) | inr q ↦ absurd (Memᴰ.not-nil q) ]
               ];
-          left = omega (arith, p.left, g);
-          ends =
-              rw (q.entries, reverse-append (take k stack) new)
-              (subst (λ (l : List ℕ). pop f ps (p.met ++ (top ∷ [])) (reverse l ++ reverse (take k stack)) ≡ popped ps) pushes_new
-              (subst (λ (x : ℕ). pop x ps p.met (top ∷ reverse (take k stack)) ≡ popped ps) g (rw waits at p.ends)));
-          counted = rw (q.entries, reverse-append (take k stack) new) counted_new;
           there =
               λ m i.
-              elim (Memᴰ.append_cases (take k stack) (subst (Memᴰ m) q.entries i)) [
-                | inl j ↦ p.there m (subst (Memᴰ m) (sym last) (Memᴰ.append_left (top ∷ []) j))
+              elim (Memᴰ.append_cases rest (subst (Memᴰ m) q i)) [
+                | inl j ↦ p.there m (subst (Memᴰ m) (sym e) (Memᴰ.append_left (top ∷ []) j))
                 | inr j ↦ pushed_there m j
               ];
           caches = λ m t. rw h (counts_next m t);
           others = λ m i. rw h (others_next m i);
-          room = q.size ∙ p.room;
-          fits = omega (arith, q.len, room_new);
-          size = rw h (size_after (cached bytes top));
-          order_size = length-set order turns top ∙ p.order_size;
+          size = rw h (size_after (cached stored.bytes top));
         }
       where
-        some_fuel : (x : ℕ) → turns + x ≡ most_places ps → (f : ℕ) × (x ≡ suc f)
+        some_fuel : (x : ℕ) → length met + x ≡ most_places ps → (f : ℕ) × (x ≡ suc f)
         some_fuel zero l = absurd (omega (arith, turn.left))
         some_fuel (suc f) l = (f, refl)
-
-        last : take len stack ≡ take k stack ++ (top ∷ [])
-        last = ap (λ (j : ℕ). take j stack) e ∙ take-suc stack k 0 (omega (arith, p.fits, p.room))
 
         in_range : (m : ℕ) (b : Bool) → Memᴰ m (if b then [] else (step_at ps top).inputs) → m < length ps
         in_range m true j = absurd (Memᴰ.not-nil j)
         in_range m false j = input_there ps plan top m j
 
         pushed_there : (m : ℕ) → Memᴰ m new → m < length ps
-        pushed_there m j = in_range m (is_cache ps top && among top p.met) (subst (Memᴰ m) (sym pushes_new) j)
+        pushed_there m j = in_range m (is_cache ps top && among top met) (subst (Memᴰ m) (sym pushes_new) j)
 
         size_after : (b : Bool) → length (if b then set counts top (get_or counts top 0 + 1) else counts) ≡ 32
         size_after true = length-set counts top (get_or counts top 0 + 1) ∙ p.size

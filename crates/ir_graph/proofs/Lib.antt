@@ -1,6 +1,5 @@
 pub mod Inputs
 pub mod Pushing
-pub mod Turning
 pub mod Linking
 pub mod Bounds
 pub mod FirstPass

@@ -1,11 +1,11 @@
 -- Making the edges of one step.
 use mathlib.Core.Path.{◌≡◌, refl, ap, ◌∙◌}
 use mathlib.Core.List.{List, [], ◌∷◌, ◌++◌, map, append_assoc, append-nil}
-use Prim.Native.Nat.{ℕ, suc, ◌+◌, ◌-◌, ◌≤◌, ◌<◌}
+use Prim.Native.Nat.{ℕ, suc, ◌+◌, ◌<◌, ◌≤◌}
 use native.Mathlib.Omega.{arith}
 use native.Mathlib.Numerals.{add-one}
-use lib.ListN.{length, get_or, take, drop, length-take, length-drop}
-use lib.Seq.{take-suc, take_all, get_or-take, get_or-drop}
+use lib.ListN.{length, get_or, take, drop, length-take}
+use lib.Seq.{take-suc, take_all, length-take-le}
 use Rattle.plan.specs.Lists.{numbered}
 use Rattle.plan.specs.Graph.{edges_into}
 use Rattle.storage.proofs.Laws.{length_table}
@@ -40,34 +40,29 @@ pub same_into : (n : ℕ) (ms : List ℕ) → edges_into (λ j. j) n ms ≡ by_l
 unfolding edges_into by_line.edges_into
 same_into n ms = refl
 
--- A loop over the inputs, that are the places from a to b -------------------------------------------------------------------------
-
-abbrev pub between : ℕ → ℕ → List ℕ → List ℕ
-between a b places = drop a (take b places)
-
-length_between : (a b : ℕ) (places : List ℕ) → b ≤ length places → length (between a b places) ≡ b - a
-length_between a b places h = simp (length-drop, length-take) (omega arith)
+-- A loop over the inputs -----------------------------------------------------------------------------------------------------------
 
 module _ {n e : ℕ} {ends edges : List ℕ} where
-  pub none_linked : Linked n [] ends edges e ends edges (e + 0)
+  pub none_linked : Linked n [] ends edges e ends edges e
   unfolding edges_into numbered
-  none_linked = let z : e + 0 ≡ e = omega arith in record { count = refl; linked = rw (z, append-nil); firsts = refl }
+  none_linked = record { count = omega arith; linked = rw append-nil; firsts = refl }
 
-  module _ (a b k : ℕ) (places : List ℕ) {ends' edges' : List ℕ} (h : b ≤ length places) (r : Linked n (take k (between a b places)) ends edges e ends' edges' (e + k)) where
-    pub next_linked : {ends'' edges'' : List ℕ} → k < b - a
-        → (stored_edges ends'' edges'' (e + k + 1) ≡ stored_edges ends' edges' (e + k) ++ (made n k (get_or places (a + k) 0) ∷ [])) × (drop 512 ends'' ≡ drop 512 ends')
-        → Linked n (take (k + 1) (between a b places)) ends edges e ends'' edges'' (e + (k + 1))
-    next_linked l q =
-        let z : e + (k + 1) ≡ e + k + 1 = omega arith in
-        let v : get_or (between a b places) k 0 ≡ get_or places (a + k) 0 = get_or-drop a (take b places) k 0 ∙ get_or-take b places (a + k) 0 (omega arith) in
-        let size = length_between a b places h in
+  module _ (k : ℕ) (ms : List ℕ) {ends' edges' : List ℕ} {count : ℕ} (r : Linked n (take k ms) ends edges e ends' edges' count) where
+    there_are : k ≤ length ms → count ≡ e + k
+    there_are l = omega (arith, r.count, length-take-le k ms l)
+
+    pub next_linked : {ends'' edges'' : List ℕ} → k < length ms
+        → stored_edges ends'' edges'' (count + 1) ≡ stored_edges ends' edges' count ++ (made n k (get_or ms k 0) ∷ [])
+        → drop 512 ends'' ≡ drop 512 ends'
+        → Linked n (take (k + 1) ms) ends edges e ends'' edges'' (count + 1)
+    next_linked l q f =
         record {
-          count = simp length-take (omega arith);
+          count = omega (arith, there_are (omega arith), length-take-le (k + 1) ms (omega arith));
           linked =
-              rw (z, q.0, r.linked, into_more n k (between a b places) (omega arith), v)
-              (append_assoc (stored_edges ends edges e) (edges_into (λ j. j) n (take k (between a b places))) (made n k (get_or places (a + k) 0) ∷ []));
-          firsts = q.1 ∙ r.firsts;
+              rw (q, r.linked, into_more n k ms l)
+              (append_assoc (stored_edges ends edges e) (edges_into (λ j. j) n (take k ms)) (made n k (get_or ms k 0) ∷ []));
+          firsts = f ∙ r.firsts;
         }
 
-    pub all_linked : k ≡ b - a → Linked n (between a b places) ends edges e ends' edges' (e + (b - a))
-    all_linked l = rw (l, take_all (b - a) (between a b places) (omega (arith, length_between a b places h))) at r
+    pub all_linked : k ≡ length ms → Linked n ms ends edges e ends' edges' count
+    all_linked l = rw (l, take_all (length ms) ms (omega arith)) at r

@@ -1,4 +1,4 @@
--- IRNodeKey: the ways through `new`, and that a step's line can stand for its key.
+-- IRNodeKey: that a step's line can stand for its key.
 use Rattle.std.specs.Prelude.{if◌then◌else◌}
 use mathlib.Core.Path.{◌≡◌}
 use Prim.Native.Nat.{ℕ}
@@ -13,17 +13,8 @@ use Rattle.claims.proofs.CacheIds.{one_line_each_id}
 use Rattle.ir_graph.specs.declared.ir_node_key.IRNodeKey.{IRNodeKey}
 use Rattle.ir_graph.specs.NodeKey.{node_key}
 
-pub other_key : (s : Step) (n : ℕ) → same_ir s.kind IR.Cache ≡ false → IRNodeKey.Node n ≡ node_key s n
-unfolding node_key
-other_key s n e = rw e
-
-pub cache_key : (s : Step) (n : ℕ) {id : ℕ} → same_ir s.kind IR.Cache ≡ true → id ≡ s.a → IRNodeKey.CacheId id ≡ node_key s n
-unfolding node_key
-cache_key s n e a = rw (e, a)
-
 -- Two steps with one key are one line
 pub one_line_each_key : (sh : Sheet) → WellFormed sh → (m n : ℕ) → node_key (step_at sh.steps m) m ≡ node_key (step_at sh.steps n) n → m ≡ n
-unfolding node_key
 one_line_each_key sh w m n k = by (same_ir a.kind IR.Cache) (same_ir b.kind IR.Cache) (same_kind a.kind IR.Cache) (same_kind b.kind IR.Cache) k
   where
     a : Step

@@ -1,13 +1,11 @@
--- Pushing onto a list, and the roots.
+-- The roots, step by step.
 use Rattle.std.specs.Prelude.{if◌then◌else◌}
-use mathlib.Core.Path.{◌≡◌, refl, sym, ap, ◌∙◌}
-use mathlib.Core.List.{List, [], ◌∷◌, ◌++◌, map, append_assoc, append-nil}
-use Prim.Native.Nat.{ℕ, suc, ◌+◌, ◌≤◌, ◌<◌}
+use mathlib.Core.Path.{◌≡◌, refl, ap, ◌∙◌}
+use mathlib.Core.List.{List, [], ◌∷◌, ◌++◌, map}
+use Prim.Native.Nat.{ℕ, suc, ◌+◌, ◌≤◌}
 use native.Mathlib.Omega.{arith}
-use native.Mathlib.Numerals.{add-one}
 use mathlib.Core.Bool.{Bool, true, false}
-use lib.ListN.{length, take, set, length-append, length-set}
-use lib.Seq.{take-suc-set}
+use lib.ListN.{length}
 use Rattle.plan.specs.declared.ir.IR.{IR}
 use Rattle.plan.specs.Kinds.{same_ir}
 use Rattle.plan.specs.Lists.{select, numbered}
@@ -16,26 +14,7 @@ use Rattle.plan.specs.Graph.{sinks}
 use Rattle.storage.specs.Stored.{table, stored_step, stored_steps}
 use Rattle.storage.proofs.Laws.{length_table, one_entry_more}
 use Rattle.claims.proofs.Plans.{sinks_from}
-use Rattle.ir_graph.specs.Pushed.{Pushed}
 use Rattle.ir_graph.specs.Turns.{root}
-
-pub pushed_none : (list : List ℕ) (len : ℕ) → Pushed [] list len list len
-pushed_none list len = record { len = omega arith; entries = sym (append-nil (take len list)); size = refl }
-
-pub pushed_one : (list : List ℕ) (len v : ℕ) → len < length list → Pushed (v ∷ []) list len (set list len v) (len + 1)
-pushed_one list len v h = record { len = refl; entries = rw add-one (take-suc-set list len v h); size = length-set list len v }
-
-pub pushed_then : (a b : List ℕ) {x y z : List ℕ} {k r q : ℕ} → Pushed a x k y r → Pushed b y r z q → Pushed (a ++ b) x k z q
-pushed_then a b {x = x} {k = k} p p' =
-    record {
-      len = omega (arith, p.len, p'.len, length-append a b);
-      entries = p'.entries ∙ ap (λ (l : List ℕ). l ++ b) p.entries ∙ append_assoc (take k x) a b;
-      size = p'.size ∙ p.size;
-    }
-
--- Tables -------------------------------------------------------------------------------------------------------------------------
-
--- The roots ----------------------------------------------------------------------------------------------------------------------
 
 abbrev one_if : Bool → ℕ → List ℕ
 one_if b k = if b then k ∷ [] else []
@@ -61,8 +40,8 @@ sinks_more k (x ∷ ps) s =
     by false e = e
 
 module _ (bytes : List ℕ) where
-  root_more : (i : ℕ) → sinks (stored_steps bytes (i + 1)) ≡ sinks (stored_steps bytes i) ++ root bytes i
-  unfolding sinks stored_steps root
+  pub root_more : (i : ℕ) → sinks (stored_steps bytes (i + 1)) ≡ sinks (stored_steps bytes i) ++ root bytes i
+  unfolding sinks stored_steps
   root_more i =
       rw (one_entry_more (stored_step bytes) i)
       (sinks_more 0 (table (stored_step bytes) 0 i) (stored_step bytes i)
@@ -71,17 +50,11 @@ module _ (bytes : List ℕ) where
       at : (i : ℕ) → 0 + length (table (stored_step bytes) 0 i) ≡ i
       at i = omega (arith, length_table (stored_step bytes) 0 i)
 
-  -- a loop over the steps: its invariant is Pushed (sinks (stored_steps bytes i)) entry 0 list len
-  pub no_roots : (list : List ℕ) → Pushed (sinks (stored_steps bytes 0)) list 0 list 0
+  pub no_roots : [] ≡ sinks (stored_steps bytes 0)
   unfolding sinks stored_steps table numbered select
-  no_roots list = pushed_none list 0
-
-  pub next_root : (i : ℕ) {x y z : List ℕ} {r q : ℕ} → Pushed (sinks (stored_steps bytes i)) x 0 y r → Pushed (root bytes i) y r z q
-      → Pushed (sinks (stored_steps bytes (i + 1))) x 0 z q
-  next_root i p p' = rw (root_more i) (pushed_then (sinks (stored_steps bytes i)) (root bytes i) p p')
+  no_roots = refl
 
   pub few_roots : (i : ℕ) → length (root bytes i) ≤ 1
-  unfolding root
   few_roots i = by (same_ir (stored_step bytes i).kind IR.Sink)
     where
       by : (b : Bool) → length (one_if b i) ≤ 1

@@ -6,7 +6,7 @@ use Prim.Native.Nat.{ℕ, suc, ◌+◌, ◌≤◌, ◌<◌}
 use native.Mathlib.Omega.{arith}
 use native.Mathlib.Decide.{ℕ_discrete}
 use mathlib.Core.Bool.{Bool, true, false, ◌||◌, not}
-use mathlib.Core.List.{List, [], ◌∷◌, ◌++◌, map, append-nil}
+use mathlib.Core.List.{List, [], ◌∷◌, ◌++◌, map, append-nil, reverse}
 use lib.Dec.{T, eqb, eqb→eq}
 use lib.ListN.{length, get_or, take, drop, set, length-append, length-drop, length-map, length-set}
 use lib.Seq.{take_all, take-append-le, drop-append-le, drop-append_seam, get_or-set_same, get_or-set_other}
@@ -15,7 +15,8 @@ use Rattle.plan.specs.Sheet.{Step, step_at}
 use Rattle.plan.specs.Faults.{named}
 use Rattle.plan.specs.Graph.{Edge, graph, sinks, is_cache}
 use Rattle.plan.specs.Visit.{is_into, no_edge}
-use Rattle.storage.specs.Stored.{stored_steps, StepFormed}
+use Rattle.storage.specs.Held.{steps_in}
+use Rattle.storage.specs.declared.stored.Steps.{Steps}
 use Rattle.storage.specs.Edges.{stored_edge, stored_edges, made, InARow}
 use borrow.Author.Tests.{ne_eqb}
 use Rattle.plan.proofs.Booleans.{equal}
@@ -96,10 +97,10 @@ no_rows ps plan firsts s z =
       size = s;
     }
 
-module _ (bytes : List ℕ) (n : ℕ) (small : n ≤ 32) (plan : Plan (stored_steps bytes n)) (formed : (i : ℕ) → i < n → StepFormed bytes i) where
-  module _ (places counts : List ℕ) (es : List Edge) (len i : ℕ) (g : Growing (stored_steps bytes n) places counts es len i) (h : i < len) where
+module _ (stored : Steps) (plan : Plan (steps_in stored)) where
+  module _ (places counts : List ℕ) (es : List Edge) (i : ℕ) (g : Growing (steps_in stored) places counts es i) (h : i < length places) where
     abbrev all_steps : List Step
-    all_steps = stored_steps bytes n
+    all_steps = steps_in stored
 
     abbrev here : ℕ
     here = get_or places i 0
@@ -108,22 +109,22 @@ module _ (bytes : List ℕ) (n : ℕ) (small : n ≤ 32) (plan : Plan (stored_st
     before = past_of places i
 
     abbrev inputs : List ℕ
-    inputs = new bytes n small plan formed places counts es len i g h
+    inputs = new stored plan places counts es i g h
 
     most : times here before + 1 ≤ total all_steps here
     most =
-        let c = counted_top bytes n small plan formed places counts es len i g h in
+        let c = counted_top stored plan places counts es i g h in
         omega (
           arith,
           c (only here),
           followed_le (only here) all_steps (opened all_steps before),
-          times_same here (rest bytes n small plan formed places counts es len i g h),
+          times_same here (rest stored plan places counts es i g h),
         )
 
     -- the inputs follow at the last place
     follow_if : (b : Bool) → opens all_steps (popped all_steps) before here ≡ b → inputs ≡ (if b then (step_at all_steps here).inputs else [])
     unfolding following
-    follow_if b e = sym (following_new bytes n small plan formed places counts es len i g h) ∙ ap (λ (a : Bool). if a then (step_at all_steps here).inputs else []) e
+    follow_if b e = sym (following_new stored plan places counts es i g h) ∙ ap (λ (a : Bool). if a then (step_at all_steps here).inputs else []) e
 
     opens_last : (total all_steps here ≤ times here before + 1 → opens all_steps (popped all_steps) before here ≡ true)
         × (times here before + 1 < total all_steps here → opens all_steps (popped all_steps) before here ≡ false)
@@ -181,7 +182,7 @@ module _ (bytes : List ℕ) (n : ℕ) (small : n ≤ 32) (plan : Plan (stored_st
         }
       where
         there : here < 32
-        there = omega (arith, top_there bytes n small plan formed places counts es len i g h)
+        there = omega (arith, top_there stored plan places counts es i g h, stored.held.few)
 
         closed_next : (m : ℕ) → Dec (m ≡ here) → m < length all_steps → total all_steps m ≤ times m (here ∷ before)
             → InRow all_steps (es ++ made_here) m (get_or (set firsts here (length es)) m 0)
@@ -205,15 +206,15 @@ module _ (bytes : List ℕ) (n : ℕ) (small : n ≤ 32) (plan : Plan (stored_st
             ∙ rw (r.unmade m (omega (arith, times_other m here before d))) (other_edges here m inputs d)
 
   -- in the end every step has all its places behind it
-  pub all_rows : (places counts firsts : List ℕ) (es : List Edge) (len i : ℕ) → Growing (stored_steps bytes n) places counts es len i → len ≤ i
-      → Rows (stored_steps bytes n) (past_of places i) es firsts
-      → (m : ℕ) → m < length (stored_steps bytes n) → InRow (stored_steps bytes n) es m (get_or firsts m 0)
-  all_rows places counts firsts es len i g h r m l =
-      let q = stored_steps bytes n in
-      let (a, b) = grown bytes n small plan formed places counts es len i g h in
-      let same : i ≡ len = omega (arith, g.order) in
+  pub all_rows : (places counts firsts : List ℕ) (es : List Edge) (i : ℕ) → Growing (steps_in stored) places counts es i → length places ≤ i
+      → Rows (steps_in stored) (past_of places i) es firsts
+      → (m : ℕ) → m < length (steps_in stored) → InRow (steps_in stored) es m (get_or firsts m 0)
+  all_rows places counts firsts es i g h r m l =
+      let q = steps_in stored in
+      let (a, b) = grown stored plan g h in
       let all = (ordered_own q plan).placed_all (only m) in
-      let gone : times m (past_of places i) ≡ times m (graph q).0 = rw same (sum_reverse (only m) (take len places) ∙ ap (times m) a) in
+      let gone : times m (past_of places i) ≡ times m (graph q).0 =
+      ap (λ (l : List ℕ). times m (reverse l)) (take_all i places h) ∙ sum_reverse (only m) places ∙ ap (times m) a in
       r.closed m l (omega arith)
 
 -- Where they are stored ----------------------------------------------------------------------------------------------------------

@@ -4,13 +4,14 @@ use mathlib.Core.Path.{◌≡◌, refl, sym, ap, ◌∙◌, subst}
 use mathlib.Core.Logic.{inl, inr, ◌≢◌}
 use Prim.Native.Nat.{ℕ, zero, suc, ◌+◌, ◌-◌, ◌≤◌, ◌<◌}
 use native.Mathlib.Omega.{arith}
+use native.Mathlib.Numerals.{add-one}
 use native.Mathlib.Decide.{ℕ_discrete}
 use mathlib.Core.Bool.{Bool, true, false, ◌&&◌, ◌||◌, not}
 use mathlib.Core.List.Memᴰ
 use mathlib.Core.List.{List, [], ◌∷◌, ◌++◌, reverse, reverse-append, reverse-reverse, append-nil, Memᴰ}
 use lib.Dec.{T, eqb, eqb→eq}
 use lib.ListN.{length, get_or, take, drop, set, length-append, length-reverse, length-take, length-drop, length-set, length-map, drop_of_length-le}
-use lib.Seq.{take-suc, take-take, take-append-le, drop-append-le, drop-cons, drop_at, get_or-take, get_or-set_same, get_or-set_other}
+use lib.Seq.{take-suc, take_all, take-append-le, drop-append-le, drop-cons, drop_at, get_or-set_same, get_or-set_other}
 use Rattle.plan.specs.declared.ir.IR.{IR}
 use Rattle.plan.specs.Kinds.{same_ir}
 use Rattle.plan.specs.Lists.{sum, times}
@@ -18,7 +19,9 @@ use Rattle.plan.specs.Sheet.{Step, step_at}
 use Rattle.plan.specs.Faults.{named}
 use Rattle.plan.specs.Graph.{Edge, sinks, is_cache, most_places}
 use Rattle.plan.specs.Graph as def
-use Rattle.storage.specs.Stored.{stored_step, stored_steps, StepFormed}
+use Rattle.storage.specs.Stored.{stored_step, StepFormed}
+use Rattle.storage.specs.Held.{steps_in}
+use Rattle.storage.specs.declared.stored.Steps.{Steps}
 use Rattle.storage.proofs.Laws.{length_steps}
 use Rattle.plan.proofs.Booleans.{T_eq, equal}
 use Rattle.plan.proofs.Counts.{true_of, sum_ones, times_same, times_other, only}
@@ -30,7 +33,6 @@ use Rattle.claims.proofs.Reached.{followed_le, followed_none}
 use Rattle.claims.proofs.Hits.{hits_named}
 use Rattle.claims.proofs.Visits.{length_numbered}
 use Rattle.claims.proofs.Places.{Counted, opened, counted_next, none_opened}
-use Rattle.ir_graph.specs.Pushed.{Pushed}
 use Rattle.ir_graph.specs.Turns.{cached, followed_by, used}
 use Rattle.ir_graph.specs.Hits.{HitsCounted}
 use Rattle.ir_graph.proofs.Inputs.{few_inputs}
@@ -40,61 +42,58 @@ use Rattle.ir_graph.proofs.Bounds.{step_there, cache_there, namings, roots}
 abbrev pub past_of : List ℕ → ℕ → List ℕ
 past_of places i = reverse (take i places)
 
-abbrev pub waiting_of : List ℕ → ℕ → ℕ → List ℕ
-waiting_of places len i = drop i (take len places)
+abbrev pub waiting_of : List ℕ → ℕ → List ℕ
+waiting_of places i = drop i places
 
 -- what is left of the pass comes to the whole of it
-pub record Growing (ps : List Step) (places counts : List ℕ) (es : List Edge) (len i : ℕ) : Type 0 where
+pub record Growing (ps : List Step) (places counts : List ℕ) (es : List Edge) (i : ℕ) : Type 0 where
   pub fuel : ℕ
   pub left : i + fuel ≡ most_places ps
-  pub ends : grow fuel ps (popped ps) (past_of places i) (waiting_of places len i) es ≡ graph ps
-  pub counted : Counted ps (past_of places i) (waiting_of places len i)
-  pub there : (m : ℕ) → Memᴰ m (waiting_of places len i) → m < length ps
+  pub ends : grow fuel ps (popped ps) (past_of places i) (waiting_of places i) es ≡ graph ps
+  pub counted : Counted ps (past_of places i) (waiting_of places i)
+  pub there : (m : ℕ) → Memᴰ m (waiting_of places i) → m < length ps
   pub caches : (m : ℕ) → T (is_cache ps m) → get_or counts m 0 + times m (past_of places i) ≡ hits (popped ps) m
-  pub made : length (sinks ps) + length es ≡ len
-  pub order : i ≤ len
-  pub fits : len ≤ 288
-  pub room : length places ≡ 288
+  pub made : length (sinks ps) + length es ≡ length places
+  pub order : i ≤ length places
+  pub fits : length places ≤ 288
   pub size : length counts ≡ 32
 
 -- what a turn at the step `top` may rely on
-pub record Turn (bytes : List ℕ) (n : ℕ) (counts : List ℕ) (len made top : ℕ) : Type 0 where
-  pub there : top < n
+pub record Turn (bytes counts places : List ℕ) (made top : ℕ) : Type 0 where
+  pub line : top < 32
   pub formed : StepFormed bytes top
   pub hit : T (cached bytes top) → 1 ≤ get_or counts top 0
   pub few : length (followed_by bytes counts top) ≤ 8
-  pub places : len + length (followed_by bytes counts top) ≤ 280
+  pub room : length places + length (followed_by bytes counts top) ≤ 280
   pub edges : made + length (followed_by bytes counts top) ≤ 248
 
-module _ (bytes : List ℕ) (n : ℕ) (small : n ≤ 32) (plan : Plan (stored_steps bytes n)) (formed : (i : ℕ) → i < n → StepFormed bytes i) where
+module _ (stored : Steps) (plan : Plan (steps_in stored)) where
   abbrev pub ps : List Step
-  ps = stored_steps bytes n
+  ps = steps_in stored
 
   few_waiting : (past waiting : List ℕ) → Counted ps past waiting → length past + length waiting ≤ most_places ps
   few_waiting past waiting c =
       omega (arith, c (λ _. 1), followed_le (λ _. 1) ps (opened ps past), sum_ones past, sum_ones waiting, sum_ones (sinks ps), sum_ones (named ps))
 
-  pub begins : (places places₀ counts : List ℕ) (len : ℕ) → length places₀ ≡ 288 → HitsCounted ps counts → Pushed (sinks ps) places₀ 0 places len
-      → Growing ps places counts [] len 0
+  pub begins : {places counts : List ℕ} → HitsCounted ps counts → places ≡ sinks ps → Growing ps places counts [] 0
   unfolding graph sum
-  begins places places₀ counts len r h p =
+  begins h e =
       record {
         fuel = most_places ps;
         left = omega arith;
-        ends = rw p.entries;
-        counted = rw p.entries (λ w. omega (arith, followed_none w ps (opened ps []) (none_opened ps plan)));
-        there = rw p.entries (root_there ps plan);
+        ends = rw e;
+        counted = rw e (λ w. omega (arith, followed_none w ps (opened ps []) (none_opened ps plan)));
+        there = rw e (root_there ps plan);
         caches = λ m t. omega (arith, h.of_line m, ap (λ (b : Bool). if b then def.hits (def.key ps) (def.popped ps) m else 0) (true_of (is_cache ps m) t), hits_own ps plan m);
-        made = omega (arith, p.len);
+        made = rw e (omega arith);
         order = omega arith;
-        fits = omega (arith, p.len, roots bytes n small plan formed);
-        room = p.size ∙ r;
+        fits = rw e (omega (arith, roots stored plan));
         size = h.size;
       }
 
   -- One turn: the step at the place i ----------------------------------------------------------------------------------------------
 
-  module _ (places counts : List ℕ) (es : List Edge) (len i : ℕ) (g : Growing ps places counts es len i) (h : i < len) where
+  module _ (places counts : List ℕ) (es : List Edge) (i : ℕ) (g : Growing ps places counts es i) (h : i < length places) where
     abbrev pub top : ℕ
     top = get_or places i 0
 
@@ -102,27 +101,24 @@ module _ (bytes : List ℕ) (n : ℕ) (small : n ≤ 32) (plan : Plan (stored_st
     past = past_of places i
 
     abbrev pub rest : List ℕ
-    rest = waiting_of places len (suc i)
+    rest = waiting_of places (suc i)
 
-    length_list : length (take len places) ≡ len
-    length_list = simp length-take (omega (arith, g.fits, g.room))
-
-    waits : waiting_of places len i ≡ top ∷ rest
-    waits = drop-cons (take len places) i 0 (omega (arith, length_list)) ∙ ap (λ (x : ℕ). x ∷ rest) (get_or-take len places i 0 h)
+    waits : waiting_of places i ≡ top ∷ rest
+    waits = drop-cons places i 0 h
 
     pub counted_top : Counted ps past (top ∷ rest)
     counted_top = rw waits at g.counted
 
-    pub top_there : top < n
-    top_there = omega (arith, length_steps bytes n, g.there top (rw waits (Memᴰ.head refl)))
+    pub top_there : top < stored.count
+    top_there = omega (arith, length_steps stored.bytes stored.count, g.there top (rw waits (Memᴰ.head refl)))
 
     abbrev pub new : List ℕ
-    new = followed_by bytes counts top
+    new = followed_by stored.bytes counts top
 
     -- of a Cache: its places gone through, those that wait and its hits
-    cache_hits : T (cached bytes top) → (1 ≤ get_or counts top 0) × (get_or counts top 0 + times top past ≡ hits (popped ps) top)
+    cache_hits : T (cached stored.bytes top) → (1 ≤ get_or counts top 0) × (get_or counts top 0 + times top past ≡ hits (popped ps) top)
     cache_hits t =
-        let c = subst T (sym (cache_there bytes n top top_there)) t in
+        let c = subst T (sym (cache_there stored.bytes stored.count top top_there)) t in
         let e = g.caches top c in (
           omega (
             arith,
@@ -137,13 +133,13 @@ module _ (bytes : List ℕ) (n : ℕ) (small : n ≤ 32) (plan : Plan (stored_st
         )
 
     pub following_new : following ps (popped ps) past top ≡ new
-    unfolding following opens followed_by
+    unfolding following opens
     following_new =
-        ap (λ (s : Step). if not (same_ir s.kind IR.Cache) || eqb (times top past + 1) (hits (popped ps) top) then s.inputs else []) (step_there bytes n top top_there)
-        ∙ by (cached bytes top) cache_hits
+        ap (λ (s : Step). if not (same_ir s.kind IR.Cache) || eqb (times top past + 1) (hits (popped ps) top) then s.inputs else []) (step_there stored.bytes stored.count top top_there)
+        ∙ by (cached stored.bytes top) cache_hits
       where
         inputs : List ℕ
-        inputs = (stored_step bytes top).inputs
+        inputs = (stored_step stored.bytes top).inputs
 
         now : (a : Bool) → (if a then inputs else []) ≡ (if not a then [] else inputs)
         now true = refl
@@ -163,39 +159,37 @@ module _ (bytes : List ℕ) (n : ℕ) (small : n ≤ 32) (plan : Plan (stored_st
     counted_new : Counted ps (top ∷ past) (rest ++ new)
     counted_new =
         subst (λ (l : List ℕ). Counted ps (top ∷ past) (rest ++ l)) following_new
-        (counted_next ps plan past rest top counted_top (omega (arith, length_steps bytes n, top_there)))
+        (counted_next ps plan past rest top counted_top (omega (arith, length_steps stored.bytes stored.count, top_there)))
 
-    all_fit : len + length new ≤ most_places ps
+    all_fit : length places + length new ≤ most_places ps
     all_fit =
         let f = few_waiting (top ∷ past) (rest ++ new) counted_new in
-        let l : length past ≡ i = simp (length-reverse, length-take) (omega (arith, g.fits, g.room)) in
-        let r : length rest ≡ len - suc i = simp (length-drop, length-take) (omega (arith, g.fits, g.room)) in
+        let l : length past ≡ i = simp (length-reverse, length-take) (omega arith) in
+        let r : length rest ≡ length places - suc i = simp length-drop (omega arith) in
         omega (arith, f, length-append rest new, l, r)
 
     few_new : length new ≤ 8
-    unfolding followed_by
-    few_new = by (cached bytes top && not (eqb (get_or counts top 0 - 1) 0))
+    few_new = by (cached stored.bytes top && not (eqb (get_or counts top 0 - 1) 0))
       where
-        by : (b : Bool) → length (if b then [] else (stored_step bytes top).inputs) ≤ 8
+        by : (b : Bool) → length (if b then [] else (stored_step stored.bytes top).inputs) ≤ 8
         by true = omega arith
-        by false = few_inputs bytes top (formed top top_there)
+        by false = few_inputs stored.bytes top (stored.held.formed top top_there)
 
-    pub turn : (edges : ℕ) → length es ≡ edges → Turn bytes n counts len edges top
+    pub turn : (edges : ℕ) → length es ≡ edges → Turn stored.bytes counts places edges top
     turn edges e =
         record {
-          there = top_there;
-          formed = formed top top_there;
+          line = omega (arith, top_there, stored.held.few);
+          formed = stored.held.formed top top_there;
           hit = λ t. (cache_hits t).0;
           few = few_new;
-          places = omega (arith, all_fit, namings bytes n small plan formed, roots bytes n small plan formed);
-          edges = omega (arith, all_fit, g.made, namings bytes n small plan formed);
+          room = omega (arith, all_fit, namings stored plan, roots stored plan);
+          edges = omega (arith, all_fit, g.made, namings stored plan);
         }
 
     pub turns_left : i < most_places ps
     turns_left = omega (arith, all_fit)
 
-    counts_next : (m : ℕ) → T (is_cache ps m) → get_or (used bytes counts top) m 0 + times m (top ∷ past) ≡ hits (popped ps) m
-    unfolding used
+    counts_next : (m : ℕ) → T (is_cache ps m) → get_or (used stored.bytes counts top) m 0 + times m (top ∷ past) ≡ hits (popped ps) m
     counts_next m t = by (ℕ_discrete m top)
       where
         other : (b : Bool) → m ≢ top → get_or (if b then set counts top (get_or counts top 0 - 1) else counts) m 0 ≡ get_or counts m 0
@@ -206,38 +200,30 @@ module _ (bytes : List ℕ) (n : ℕ) (small : n ≤ 32) (plan : Plan (stored_st
         same true h = get_or-set_same counts top (get_or counts top 0 - 1) 0 (omega (arith, g.size, top_there))
         same false h = absurd h
 
-        by : Dec (m ≡ top) → get_or (used bytes counts top) m 0 + times m (top ∷ past) ≡ hits (popped ps) m
+        by : Dec (m ≡ top) → get_or (used stored.bytes counts top) m 0 + times m (top ∷ past) ≡ hits (popped ps) m
         by (yes e) =
-            let b = subst T (cache_there bytes n top top_there) (subst (λ x. T (is_cache ps x)) e t) in
+            let b = subst T (cache_there stored.bytes stored.count top top_there) (subst (λ x. T (is_cache ps x)) e t) in
             let (one, f) = cache_hits b in
-            subst (λ x. get_or (used bytes counts top) x 0 + times x (top ∷ past) ≡ hits (popped ps) x) (sym e)
-            (omega (arith, same (cached bytes top) b, times_same top past))
-        by (no h) = omega (arith, other (cached bytes top) h, times_other m top past h, g.caches m t)
+            subst (λ x. get_or (used stored.bytes counts top) x 0 + times x (top ∷ past) ≡ hits (popped ps) x) (sym e)
+            (omega (arith, same (cached stored.bytes top) b, times_same top past))
+        by (no h) = omega (arith, other (cached stored.bytes top) h, times_other m top past h, g.caches m t)
 
-    module _ (places' counts' : List ℕ) (len' : ℕ) (q : Pushed new places len places' len') where
+    module _ (places' counts' : List ℕ) (q : places' ≡ places ++ new) where
       pub gone : past_of places' (i + 1) ≡ top ∷ past
       gone =
-          let e : i + 1 ≡ suc i = omega arith in
-          ap (λ (j : ℕ). past_of places' j) e
-          ∙ ap reverse (sym (take-take (suc i) len' places' (omega (arith, q.len)))
-          ∙ ap (λ (l : List ℕ). take (suc i) l) q.entries
-          ∙ take-append-le (suc i) (take len places) new (omega (arith, length_list))
-          ∙ take-take (suc i) len places h
-          ∙ take-suc places i 0 (omega (arith, g.fits, g.room)))
-          ∙ reverse-append (take i places) (top ∷ [])
+          rw (q, add-one, take-append-le (suc i) places new h, take-suc places i 0 h, reverse-append (take i places) (top ∷ [])) refl
 
-      wait : waiting_of places' len' (i + 1) ≡ rest ++ new
-      wait =
-          let e : i + 1 ≡ suc i = omega arith in
-          ap (λ (j : ℕ). waiting_of places' len' j) e
-          ∙ ap (λ (l : List ℕ). drop (suc i) l) q.entries
-          ∙ drop-append-le (suc i) (take len places) new (omega (arith, length_list))
+      wait : waiting_of places' (i + 1) ≡ rest ++ new
+      wait = rw (q, add-one, drop-append-le (suc i) places new h) refl
 
-      pub just_pushed : waiting_of places' len' len ≡ new
-      just_pushed = ap (λ (l : List ℕ). drop len l) q.entries ∙ drop_at (take len places) new len length_list
+      pub just_pushed : drop (length places) places' ≡ new
+      just_pushed = rw q (drop_at places new (length places) refl)
 
-      pub growing_next : counts' ≡ used bytes counts top → Growing ps places' counts' (es ++ edges_into top new) len' (i + 1)
-      unfolding grow used following edges_into
+      pub longer : length places' ≡ length places + length new
+      longer = rw q (length-append places new)
+
+      pub growing_next : counts' ≡ used stored.bytes counts top → Growing ps places' counts' (es ++ edges_into top new) (i + 1)
+      unfolding grow following edges_into
       growing_next u =
           let (f, e) = some_fuel g.fuel g.left in
           record {
@@ -257,11 +243,10 @@ module _ (bytes : List ℕ) (n : ℕ) (small : n ≤ 32) (plan : Plan (stored_st
             caches = λ m t. rw (u, gone) (counts_next m t);
             made =
                 simp (length-append, length-map)
-                (omega (arith, g.made, q.len, length_numbered 0 new));
-            order = omega (arith, q.len);
-            fits = omega (arith, q.len, all_fit, namings bytes n small plan formed, roots bytes n small plan formed);
-            room = q.size ∙ g.room;
-            size = rw u (size_after (cached bytes top));
+                (omega (arith, g.made, longer, length_numbered 0 new));
+            order = omega (arith, longer);
+            fits = omega (arith, longer, all_fit, namings stored plan, roots stored plan);
+            size = rw u (size_after (cached stored.bytes top));
           }
         where
           some_fuel : (x : ℕ) → i + x ≡ most_places ps → (f : ℕ) × (x ≡ suc f)
@@ -278,20 +263,17 @@ module _ (bytes : List ℕ) (n : ℕ) (small : n ≤ 32) (plan : Plan (stored_st
 
   -- The end of the list ------------------------------------------------------------------------------------------------------------
 
-  pub grown : (places counts : List ℕ) (es : List Edge) (len i : ℕ) → Growing ps places counts es len i → len ≤ i
-      → (take len places ≡ (def.graph ps).0) × (es ≡ (def.graph ps).1)
+  pub grown : {places counts : List ℕ} {es : List Edge} {i : ℕ} → Growing ps places counts es i → length places ≤ i
+      → (places ≡ (def.graph ps).0) × (es ≡ (def.graph ps).1)
   unfolding grow
-  grown places counts es len i g h = subst (λ (x : List ℕ × List Edge). (take len places ≡ x.0) × (es ≡ x.1)) (sym (graph_own ps plan)) (by g.fuel (rw (same, nothing) at g.ends))
+  grown {places} {es = es} {i} g h = subst (λ (x : List ℕ × List Edge). (places ≡ x.0) × (es ≡ x.1)) (sym (graph_own ps plan)) (by g.fuel (rw (all_past, drop_of_length-le places {i = i} h) at g.ends))
     where
-      same : i ≡ len
-      same = omega (arith, g.order)
+      all_past : past_of places i ≡ reverse places
+      all_past = ap reverse (take_all i places h)
 
-      nothing : waiting_of places len len ≡ []
-      nothing = drop_of_length-le (take len places) {i = len} (simp length-take (omega arith))
-
-      both : (l : List ℕ) → (l, es) ≡ graph ps → l ≡ take len places → (take len places ≡ (graph ps).0) × (es ≡ (graph ps).1)
+      both : (l : List ℕ) → (l, es) ≡ graph ps → l ≡ places → (places ≡ (graph ps).0) × (es ≡ (graph ps).1)
       both l e v = (sym v ∙ ap (λ x. x.0) e, ap (λ x. x.1) e)
 
-      by : (f : ℕ) → grow f ps (popped ps) (past_of places len) [] es ≡ graph ps → (take len places ≡ (graph ps).0) × (es ≡ (graph ps).1)
-      by zero e = both (reverse (past_of places len) ++ []) e (append-nil (reverse (past_of places len)) ∙ reverse-reverse (take len places))
-      by (suc f) e = both (reverse (past_of places len)) e (reverse-reverse (take len places))
+      by : (f : ℕ) → grow f ps (popped ps) (reverse places) [] es ≡ graph ps → (places ≡ (graph ps).0) × (es ≡ (graph ps).1)
+      by zero e = both (reverse (reverse places) ++ []) e (append-nil (reverse (reverse places)) ∙ reverse-reverse places)
+      by (suc f) e = both (reverse (reverse places)) e (reverse-reverse places)

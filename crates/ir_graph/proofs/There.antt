@@ -1,14 +1,13 @@
 -- The places, and the ends of the edges, are lines of the sheet.
 use Rattle.std.specs.Prelude.{if◌then◌else◌}
-use mathlib.Core.Path.{◌≡◌, sym, ap, ◌∙◌}
+use mathlib.Core.Path.{◌≡◌, sym, ap, ◌∙◌, subst}
 use Prim.Native.Nat.{ℕ, zero, suc, ◌+◌, ◌≤◌, ◌<◌}
 use native.Mathlib.Omega.{arith}
 use mathlib.Core.Bool.{Bool, true, false}
 use mathlib.Core.List.{List, Memᴰ}
 use mathlib.Core.Option.{Option, none, some}
 use lib.Dec.{eqb}
-use lib.ListN.{length, get_or, take, length-take}
-use lib.Seq.{get_or-take}
+use lib.ListN.{length, get_or}
 use Rattle.plan.specs.Lists.{times}
 use Rattle.plan.specs.Sheet.{Step, no_step, step_at}
 use Rattle.plan.specs.Faults.{named}
@@ -74,8 +73,7 @@ module _ (ps : List Step) (plan : Plan ps) where
           input_there ps plan i m j
       by (suc x) f h = f (omega arith)
 
-  pub place_there : (places : List ℕ) (len : ℕ) → len ≤ length places → take len places ≡ (graph ps).0 → (k : ℕ) → k < len → get_or places k 0 < length ps
-  place_there places len l e k h =
+  pub place_there : (places : List ℕ) → places ≡ (graph ps).0 → (k : ℕ) → k < length places → get_or places k 0 < length ps
+  place_there places e k h =
       let m = get_or places k 0 in
-      let i : Memᴰ m (take len places) = rw (get_or-take len places k 0 h) at (mem_at (take len places) k 0 (simp length-take (omega arith))) in
-      line_there m (omega (arith, times_of m (graph ps).0 (rw e at i), (ordered_own ps plan).placed_all (only m)))
+      line_there m (omega (arith, times_of m (graph ps).0 (subst (Memᴰ m) e (mem_at places k 0 h)), (ordered_own ps plan).placed_all (only m)))

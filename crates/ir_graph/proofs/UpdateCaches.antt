@@ -3,7 +3,7 @@ use Rattle.std.specs.Prelude.{if◌then◌else◌}
 use mathlib.Core.Path.{◌≡◌, refl, sym, ap, ◌∙◌, subst}
 use mathlib.Core.Logic.{◌≢◌}
 use mathlib.Core.List.{List, [], ◌∷◌}
-use Prim.Native.Nat.{ℕ, zero, suc, ◌+◌, ◌*◌, ◌≤◌, ◌<◌}
+use Prim.Native.Nat.{ℕ, zero, suc, ◌+◌, ◌≤◌, ◌<◌}
 use native.Mathlib.Omega.{arith}
 use native.Mathlib.Numerals.{add-one}
 use native.Mathlib.Nat.{not-suc-le-zero, le_refl}
@@ -16,9 +16,9 @@ use Rattle.plan.specs.declared.ir.IR.{IR}
 use Rattle.plan.specs.Kinds.{ir_number, same_ir}
 use Rattle.plan.specs.Sheet.{Step, no_step, step_at}
 use Rattle.plan.specs.Graph.{is_cache, key, update_cache_nodes}
-use Rattle.storage.specs.Stored.{stored_steps, StepsHeld}
+use Rattle.storage.specs.Held.{steps_in}
+use Rattle.storage.specs.declared.stored.Steps.{Steps}
 use Rattle.storage.proofs.Laws.{table_at, length_steps}
-use Rattle.storage.proofs.StepLaws.{its_n1}
 use Rattle.plan.specs.Visit.{with_input}
 use Rattle.claims.proofs.Stays.{reads_kept}
 use Rattle.claims.proofs.StepTable.{has_inputs}
@@ -66,34 +66,31 @@ module _ (first : List ℕ) (ps : List Step) (m : ℕ) where
       }
 
 -- where it is stored
-module _ (bytes : List ℕ) (n : ℕ) (first : List ℕ) (m : ℕ) (held : StepsHeld bytes n) (here : m < n) (u : Updatable (take n first) (stored_steps bytes n))
-    (e : cached bytes m ≡ true) where
+module _ (stored : Steps) (first : List ℕ) (m : ℕ) (here : m < stored.count) (u : Updatable (take stored.count first) (steps_in stored))
+    (e : cached stored.bytes m ≡ true) where
   abbrev ps : List Step
-  ps = stored_steps bytes n
+  ps = steps_in stored
 
   abbrev line : ℕ
   line = get_or first m 0
 
   caches : T (is_cache ps m) × T (is_cache ps line)
   caches =
-      let t = subst T (sym (cache_there bytes n m here ∙ e)) tt in
-      (t, subst (λ (k : ℕ). T (is_cache ps k)) (get_or-take n first m 0 here) (u.cache m t))
+      let t = subst T (sym (cache_there stored.bytes stored.count m here ∙ e)) tt in
+      (t, subst (λ (k : ℕ). T (is_cache ps k)) (get_or-take stored.count first m 0 here) (u.cache m t))
 
-  pub line_there : line < n
-  line_there = omega (arith, length_steps bytes n, has_inputs ps line (omega (arith, u.input line caches.1)))
+  pub line_there : line < stored.count
+  line_there = omega (arith, length_steps stored.bytes stored.count, has_inputs ps line (omega (arith, u.input line caches.1)))
 
-  pub have_inputs : (1 ≤ get_or bytes (m * 32 + 4) 0) × (1 ≤ get_or bytes (line * 32 + 4) 0)
-  have_inputs = (
-    omega (arith, u.input m caches.0, its_n1 bytes n m held here),
-    omega (arith, u.input line caches.1, its_n1 bytes n line held line_there),
-  )
+  pub have_inputs : (1 ≤ length (step_at ps m).inputs) × (1 ≤ length (step_at ps line).inputs)
+  have_inputs = (omega (arith, u.input m caches.0), omega (arith, u.input line caches.1))
 
   pub input_updated : {v : ℕ} {qs : List Step} → v ≡ get_or (step_at ps line).inputs 0 0 → qs ≡ set ps m (with_input 0 v (step_at ps m))
-      → qs ≡ update_cache_node (take n first) ps m
+      → qs ≡ update_cache_node (take stored.count first) ps m
   input_updated same is =
       is
-      ∙ ap (λ (v : ℕ). set ps m (with_input 0 v (step_at ps m))) (same ∙ ap (λ (k : ℕ). get_or (step_at ps k).inputs 0 0) (sym (get_or-take n first m 0 here)))
-      ∙ updated (take n first) ps m (cache_there bytes n m here ∙ e)
+      ∙ ap (λ (v : ℕ). set ps m (with_input 0 v (step_at ps m))) (same ∙ ap (λ (k : ℕ). get_or (step_at ps k).inputs 0 0) (sym (get_or-take stored.count first m 0 here)))
+      ∙ updated (take stored.count first) ps m (cache_there stored.bytes stored.count m here ∙ e)
 
 one_entry : (xs ys : List ℕ) → length xs ≡ 1 → length ys ≡ 1 → set xs 0 (get_or ys 0 0) ≡ ys
 one_entry (x ∷ []) (y ∷ []) e f = refl

@@ -1,13 +1,7 @@
 -- The edges as they are made: an edge into each slot of a step.
-use Rattle.std.specs.Prelude.{◌≡◌, ℕ, ◌+◌, ◌≤◌, List, ◌++◌, length, drop}
+use Rattle.std.specs.Prelude.{◌≡◌, ℕ, ◌+◌, List, ◌++◌, length, drop}
 use Rattle.plan.specs.Graph.{edges_into}
 use Rattle.storage.specs.Edges.{stored_edges}
-
--- the inputs of one step can be the places from start to end
-pub record InputsFrom (start end : ℕ) : Type 0 where
-  pub order : start ≤ end
-  pub few : end ≤ start + 8
-  pub within : end ≤ 288
 
 -- edges from `ms` into n were made behind the first e, and now there are r; the numbers of first in-edges are as they were
 pub record Linked (n : ℕ) (ms ends edges : List ℕ) (e : ℕ) (ends' edges' : List ℕ) (r : ℕ) : Type 0 where

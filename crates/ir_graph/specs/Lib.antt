@@ -1,4 +1,3 @@
-pub mod Pushed
 pub mod Turns
 pub mod Hits
 pub mod Edges

@@ -6,5 +6,5 @@ use Rattle.plan.specs.Sheet.{Step}
 use Rattle.ir_graph.specs.declared.ir_node_key.IRNodeKey.{IRNodeKey}
 
 -- of the step s on line n
-unfoldable pub node_key : Step → ℕ → IRNodeKey
+abbrev pub node_key : Step → ℕ → IRNodeKey
 node_key s n = if same_ir s.kind IR.Cache then IRNodeKey.CacheId s.a else IRNodeKey.Node n

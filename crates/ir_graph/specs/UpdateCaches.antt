@@ -1,5 +1,5 @@
 -- CacheNodeUpdater of ir_graph.rs as the code goes about it: a table of the lines met first, and update_cache_nodes line by line.
-use Rattle.std.specs.Prelude.{◌≡◌, ℕ, ◌≤◌, ◌<◌, List, T, length, get_or, set, if◌then◌else◌}
+use Rattle.std.specs.Prelude.{◌≡◌, ℕ, List, T, length, get_or, set, if◌then◌else◌}
 use Rattle.plan.specs.Sheet.{Step, step_at}
 use Rattle.plan.specs.Graph.{is_cache, key}
 use Rattle.storage.specs.Stored.{table}
@@ -8,12 +8,6 @@ use Rattle.plan.specs.Visit.{with_input}
 -- the key of each line, by the steps as they are sent; only a Cache's is read
 unfoldable pub first_lines : List Step → List ℕ
 first_lines ps = table (key ps) 0 (length ps)
-
--- k and m are among n steps
-pub record TwoSteps (n k m : ℕ) : Type 0 where
-  pub few : n ≤ 32
-  pub one : k < n
-  pub other : m < n
 
 -- such a table as a function
 abbrev pub line_met : List ℕ → ℕ → ℕ

@@ -1,60 +1,48 @@
 // The line of each cache id that the first pass meets first: nodes[0] of the Rust's CacheNodes.
-ghost use Rattle.std.specs.Prelude.{◌≡◌, ℕ, ◌≤◌, ◌<◌, get_or, take};
+ghost use Rattle.std.specs.Prelude.{◌≡◌, ℕ, ◌<◌, length, get_or, take};
 ghost use Rattle.plan.specs.Graph.{one_id, first_met};
-ghost use Rattle.storage.specs.Stored.{stored_steps, StepFormed};
 ghost use Rattle.claims.specs.Plan.{Plan};
-ghost use Rattle.ir_graph.specs.UpdateCaches.{first_lines, TwoSteps};
+ghost use Rattle.storage.specs.Held.{steps_in};
+ghost use Rattle.ir_graph.specs.UpdateCaches.{first_lines};
 
 use crate::hits::count_hits;
-use plan::sizes::{size_32, size_288};
+use crate::places::Places;
 use storage::steps::{cache_id, is_cache};
+use storage::stored::Steps;
 
 // Are both Caches, with one id?
-fn one_id(steps: &[u8; 1024], n: usize, k: usize, m: usize) -> bool
-    requires { TwoSteps n k m }
-    ensures { result ≡ one_id (stored_steps steps.now n) k m }
+fn one_id(steps: &Steps, k: usize, m: usize) -> bool
+    requires one { k < steps.now.count }
+    requires other { m < steps.now.count }
+    ensures { result ≡ one_id (steps_in steps.now) k m }
 {
-    if !is_cache(steps, k) {
-        return false;
-    }
-    if !is_cache(steps, m) {
-        return false;
-    }
-    cache_id(steps, k) == cache_id(steps, m)
+    let bytes = &steps.bytes;
+    is_cache(bytes, k) && is_cache(bytes, m) && cache_id(bytes, k) == cache_id(bytes, m)
 }
 
 // The first Cache with m's id among those met; m itself where there is none.
-fn first_of_id(steps: &[u8; 1024], n: usize, met: &[u8; 288], turns: usize, m: usize) -> u8
-    requires n_bound { (n ≤ 32) × (m < n) }
-    requires turns_bound { (turns ≤ 288) × ((k : ℕ) → k < turns → get_or met.now k 0 < n) }
-    ensures { result ≡ first_met (stored_steps steps.now n) (take turns met.now) m }
+fn first_of_id(steps: &Steps, met: &[u8], m: usize) -> u8
+    requires here { m < steps.now.count }
+    requires met_there { (k : ℕ) → k < length met.now → get_or met.now k 0 < steps.now.count }
+    ensures { result ≡ first_met (steps_in steps.now) met.now m }
 {
-    size_288(met);
-    let mut k: usize = 0;
-    while k < turns {
-        let line = met[k];
-        if one_id(steps, n, line as usize, m) {
-            return line;
+    for k in met {
+        if one_id(steps, usize::from(*k), m) {
+            return *k;
         }
-        k = k + 1;
     }
     m as u8
 }
 
 // The key of each line, before the walks: of a Cache the first with its id that the first pass meets.
-pub fn first_met(steps: &[u8; 1024], n: usize, first: &mut [u8; 32])
-    requires n_bound { n ≤ 32 }
-    requires plan { Plan (stored_steps steps.now n) }
-    requires by_index { (i : ℕ) → i < n → StepFormed steps.now i }
-    ensures { take n first.new ≡ first_lines (stored_steps steps.now n) }
+pub fn first_met(steps: &Steps, first: &mut [u8; 32])
+    requires { Plan (steps_in steps.now) }
+    ensures { take steps.now.count first.new ≡ first_lines (steps_in steps.now) }
 {
-    size_32(first);
     let mut hits: [u8; 32] = [0; 32];
-    let mut met: [u8; 288] = [0; 288];
-    let turns = count_hits(steps, n, &mut hits, &mut met);
-    let mut m: usize = 0;
-    while m < n {
-        first[m] = first_of_id(steps, n, &met, turns, m);
-        m = m + 1;
+    let mut met = Places::new();
+    count_hits(steps, &mut hits, &mut met);
+    for m in 0..steps.count {
+        first[m] = first_of_id(steps, met.as_slice(), m);
     }
 }

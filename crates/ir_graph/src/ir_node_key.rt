@@ -6,7 +6,7 @@ ghost use Rattle.ir_graph.specs.NodeKey.{node_key};
 use storage::steps::{cache_id, is_cache};
 
 // On an accepted sheet two steps with one key are one line (proofs/NodeKey), so the graph lets a step's line stand for its key.
-#[derive(Clone, Copy)]
+#[derive(Clone, Copy, Debug, PartialEq, Eq)]
 pub enum IRNodeKey {
     Node(u8),
     CacheId(u8),
@@ -17,10 +17,11 @@ impl IRNodeKey {
         requires { i < 32 }
         ensures { result ≡ node_key (stored_step steps.now i) i }
     {
-        let b = i as usize;
-        if !is_cache(steps, b) {
-            return IRNodeKey::Node(i);
+        let line = usize::from(i);
+        if is_cache(steps, line) {
+            IRNodeKey::CacheId(cache_id(steps, line))
+        } else {
+            IRNodeKey::Node(i)
         }
-        IRNodeKey::CacheId(cache_id(steps, b))
     }
 }

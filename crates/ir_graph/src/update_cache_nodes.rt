@@ -1,37 +1,33 @@
 // CacheNodeUpdater::update_cache_nodes: after the walks the Cache lines of one id have one input.
 ghost use Rattle.std.specs.Prelude.{◌≡◌, ◌<◌, take};
-ghost use Rattle.storage.specs.Stored.{stored_steps, StepsHeld};
+ghost use Rattle.storage.specs.Held.{steps_in};
 ghost use Rattle.plan.specs.Graph.{update_cache_nodes};
 ghost use Rattle.ir_graph.specs.UpdateCaches.{line_met, update_cache_node, Updatable};
 
-use storage::steps::{first_input, is_cache};
-use storage::store::store_input;
+use storage::steps::is_cache;
+use storage::stored::Steps;
 
 // Line m, if it is a Cache, takes the input of the line of its id that was met first.
-fn update_cache_node(steps: &mut [u8; 1024], n: usize, first: &[u8; 32], m: usize)
-    requires steps_held { StepsHeld steps.old n × (m < n) }
-    requires updatable { Updatable (take n first.now) (stored_steps steps.old n) }
-    ensures n_after { stored_steps steps.new n ≡ update_cache_node (take n first.now) (stored_steps steps.old n) m }
-    ensures steps_held_2 { StepsHeld steps.new n }
+fn update_cache_node(steps: &mut Steps, first: &[u8; 32], m: usize)
+    requires here { m < steps.old.count }
+    requires updatable { Updatable (take steps.old.count first.now) (steps_in steps.old) }
+    ensures updated { steps_in steps.new ≡ update_cache_node (take steps.old.count first.now) (steps_in steps.old) m }
+    ensures count { steps.new.count ≡ steps.old.count }
 {
-    if !is_cache(steps, m) {
-        return;
+    if is_cache(&steps.bytes, m) {
+        let line = usize::from(first[m]);
+        let input = steps.first_input(line);
+        steps.store_input(m, 0, input);
     }
-    let line = first[m] as usize;
-    let input = first_input(steps, n, line);
-    store_input(steps, n, m, 0, input);
 }
 
 // `first` is what first_met gave before the walks.
-pub fn update_cache_nodes(steps: &mut [u8; 1024], n: usize, first: &[u8; 32])
-    requires steps_held { StepsHeld steps.old n }
-    requires updatable { Updatable (take n first.now) (stored_steps steps.old n) }
-    ensures n_after { stored_steps steps.new n ≡ update_cache_nodes (line_met (take n first.now)) (stored_steps steps.old n) }
-    ensures steps_held_2 { StepsHeld steps.new n }
+pub fn update_cache_nodes(steps: &mut Steps, first: &[u8; 32])
+    requires { Updatable (take steps.old.count first.now) (steps_in steps.old) }
+    ensures updated { steps_in steps.new ≡ update_cache_nodes (line_met (take steps.old.count first.now)) (steps_in steps.old) }
+    ensures count { steps.new.count ≡ steps.old.count }
 {
-    let mut m: usize = 0;
-    while m < n {
-        update_cache_node(steps, n, first, m);
-        m = m + 1;
+    for m in 0..steps.count {
+        update_cache_node(steps, first, m);
     }
 }

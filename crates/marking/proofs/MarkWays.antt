@@ -5,7 +5,6 @@ use native.Mathlib.Omega.{arith}
 use mathlib.Core.List.{List, ◌++◌}
 use lib.ListN.{length, take, drop, length-append, length-drop}
 use lib.Seq.{take-append-le, drop-append-le, take_all, drop_at}
-use Rattle.plan.specs.declared.answer.Answer.{Answer}
 use Rattle.plan.specs.declared.answer.Finished.{Finished}
 use Rattle.plan.specs.Finished.{Called, called, finish, finished_answer}
 use Rattle.plan.specs.Lists.{same}
@@ -30,7 +29,7 @@ at_end m n x y p q = ap (take (n - m)) (drop_at x y m (sym p)) ∙ take_all (n -
 
 -- What a call answered -----------------------------------------------------------------------------------------------------------
 
-pub never_both : {f : Finished} {n : ℕ} → Answer.Finished f ≡ Answer.Refused n → ⊥
+pub never_both : {f : Finished} {n : ℕ} → done f ≡ refused n → ⊥
 never_both e = let z : ◌≡◌ {A = ℕ} 0 1 = cc in omega arith
 
 -- the places of a finished answer are in their order, and within the output
@@ -39,7 +38,7 @@ pub record Ordered (f : Finished) (exit : List ℕ) : Type 0 where
   pub edges : f.steps ≤ f.edges
   pub within : f.edges ≤ length exit
 
-module _ (f : Finished) (r : Run) (entry exit : List ℕ) (e : call (Answer.Finished f) exit ≡ called entry (done r)) where
+module _ (f : Finished) (r : Run) (entry exit : List ℕ) (e : call (done f) exit ≡ called entry (done r)) where
   abbrev es : List ℕ
   es = exprs_block r
 
@@ -58,7 +57,7 @@ module _ (f : Finished) (r : Run) (entry exit : List ℕ) (e : call (Answer.Fini
 
   answer_is : f ≡ finished_answer r
   unfolding called
-  answer_is = let p : Answer.Finished f ≡ Answer.Finished (finished_answer r) = ap (λ (x : Called). x.answer) e in cc
+  answer_is = let p : done f ≡ done (finished_answer r) = ap (λ (x : Called). x.answer) e in cc
 
   exprs_end : f.exprs ≡ length es
   unfolding finished_answer end_of blocks joined
@@ -111,39 +110,36 @@ module _ (f : Finished) (r : Run) (entry exit : List ℕ) (e : call (Answer.Fini
 -- By what the definition says ----------------------------------------------------------------------------------------------------
 
 module _ (entry exit : List ℕ) where
-  refused_by : (paper : List ℕ) (k : ℕ) (o : Outcome Run) → call (Answer.Refused k) exit ≡ called entry o
-      → mark_call (Mark.Refused k) exit ≡ mark_call (mark_of paper o) (called entry o).output
+  refused_by : (paper : List ℕ) (k : ℕ) (o : Outcome Run) → call (refused k) exit ≡ called entry o
+      → mark_call (refused k) exit ≡ mark_call (mark_of paper o) (called entry o).output
   unfolding called mark_of
   refused_by paper k (refused n) e =
-      let p : Answer.Refused k ≡ Answer.Refused n = ap (λ (x : Called). x.answer) e in
+      let p : refused k ≡ refused n = ap (λ (x : Called). x.answer) e in
       let i : k ≡ n = cc in
-      ap₂ (λ (x : ℕ) (y : List ℕ). mark_call (Mark.Refused x) y) i (ap (λ (x : Called). x.output) e)
+      ap₂ (λ (x : ℕ) (y : List ℕ). mark_call (refused x) y) i (ap (λ (x : Called). x.output) e)
   refused_by paper k (done r) e = absurd (never_both (sym (ap (λ (x : Called). x.answer) e)))
 
   -- a finished call has a run
-  finished_by : {P : Type 0} (f : Finished) (o : Outcome Run) → call (Answer.Finished f) exit ≡ called entry o
-      → ((r : Run) → o ≡ done r → call (Answer.Finished f) exit ≡ called entry (done r) → P) → P
+  finished_by : {P : Type 0} (f : Finished) (o : Outcome Run) → call (done f) exit ≡ called entry o
+      → ((r : Run) → o ≡ done r → call (done f) exit ≡ called entry (done r) → P) → P
   unfolding called
   finished_by f (refused n) e h = absurd (never_both (ap (λ (x : Called). x.answer) e))
   finished_by f (done r) e h = h r refl e
 
-module _ (s entry exit : List ℕ) (a : Answer) (e : call a exit ≡ finish s entry) where
-  with_answer : {b : Answer} → a ≡ b → call b exit ≡ finish s entry
-  with_answer i = ap (λ (x : Answer). call x exit) (sym i) ∙ e
-
-  pub refused_mark : (paper : List ℕ) (k : ℕ) → a ≡ Answer.Refused k → mark_call (Mark.Refused k) exit ≡ marked s paper entry
+module _ (s entry exit : List ℕ) where
+  pub refused_mark : (paper : List ℕ) (k : ℕ) → call (refused k) exit ≡ finish s entry → mark_call (refused k) exit ≡ marked s paper entry
   unfolding finish marked
-  refused_mark paper k i = refused_by entry exit paper k (marked_run s entry) (with_answer i)
+  refused_mark paper k e = refused_by entry exit paper k (marked_run s entry) e
 
-  pub places_ordered : (f : Finished) → a ≡ Answer.Finished f → Ordered f exit
+  pub places_ordered : (f : Finished) → call (done f) exit ≡ finish s entry → Ordered f exit
   unfolding finish
-  places_ordered f i = finished_by entry exit f (marked_run s entry) (with_answer i) (λ r o c. ordered f r entry exit c)
+  places_ordered f e = finished_by entry exit f (marked_run s entry) e (λ r o c. ordered f r entry exit c)
 
-  pub finished_mark : (paper : List ℕ) (f : Finished) → a ≡ Answer.Finished f → (m : Mark)
-      → m ≡ verdict (same paper (between f.exprs f.steps exit ++ between f.steps f.edges exit)) → mark_call m exit ≡ marked s paper entry
+  pub finished_mark : (paper : List ℕ) (f : Finished) → call (done f) exit ≡ finish s entry → (m : Mark)
+      → m ≡ verdict (same paper (between f.exprs f.steps exit ++ between f.steps f.edges exit)) → mark_call (done m) exit ≡ marked s paper entry
   unfolding finish marked mark_of called
-  finished_mark paper f i m v =
-      finished_by entry exit f (marked_run s entry) (with_answer i)
+  finished_mark paper f e m v =
+      finished_by entry exit f (marked_run s entry) e
       (λ r o c.
-      ap₂ mark_call (v ∙ ap (λ (l : List ℕ). verdict (same paper l)) (paper_stands f r entry exit c) ∙ ap (mark_of paper) (sym o))
+      ap₂ mark_call (ap done (v ∙ ap (λ (l : List ℕ). verdict (same paper l)) (paper_stands f r entry exit c)) ∙ ap (mark_of paper) (sym o))
       (ap (λ (x : Called). x.output) e))

@@ -12,10 +12,10 @@ use Rattle.marking.specs.declared.answer.Mark.{Mark}
 
 -- what marking answers, and the bytes of the output at its exit
 pub record MarkCalled : Type 0 where
-  pub answer : Mark
+  pub answer : Outcome Mark
   pub output : List ℕ
 
-abbrev pub mark_call : Mark → List ℕ → MarkCalled
+abbrev pub mark_call : Outcome Mark → List ℕ → MarkCalled
 mark_call r output = record { answer = r; output = output }
 
 -- the one right paper: the P lines of the finished sheet, then its G lines
@@ -27,9 +27,9 @@ verdict true = Mark.Right
 verdict false = Mark.Wrong
 
 -- right exactly if the paper's bytes are those of the right paper
-unfoldable pub mark_of : List ℕ → Outcome Run → Mark
-mark_of paper (refused n) = Mark.Refused n
-mark_of paper (done whole) = verdict (same paper (right_paper whole))
+unfoldable pub mark_of : List ℕ → Outcome Run → Outcome Mark
+mark_of paper (refused n) = refused n
+mark_of paper (done whole) = done (verdict (same paper (right_paper whole)))
 
 -- the run that finishes s, unless the output is too short for it
 abbrev pub marked_run : List ℕ → List ℕ → Outcome Run
@@ -46,22 +46,22 @@ marked s paper output =
 -- What an answer says, by document 01 ----------------------------------------------------------------------------------------
 
 -- the line that is printed: `right`, `wrong`, or `R,` and the number; and byte 10
-unfoldable pub mark_line : Mark → List ℕ
-mark_line Mark.Right = 114 ∷ 105 ∷ 103 ∷ 104 ∷ 116 ∷ 10 ∷ []
-mark_line Mark.Wrong = 119 ∷ 114 ∷ 111 ∷ 110 ∷ 103 ∷ 10 ∷ []
-mark_line (Mark.Refused n) = refusal_line n
+unfoldable pub mark_line : Outcome Mark → List ℕ
+mark_line (done Mark.Right) = 114 ∷ 105 ∷ 103 ∷ 104 ∷ 116 ∷ 10 ∷ []
+mark_line (done Mark.Wrong) = 119 ∷ 114 ∷ 111 ∷ 110 ∷ 103 ∷ 10 ∷ []
+mark_line (refused n) = refusal_line n
 
 -- the number that C is told: 0 for right, 255 for wrong, else the refusal's
-unfoldable pub mark_answer : Mark → ℕ
-mark_answer Mark.Right = 0
-mark_answer Mark.Wrong = 255
-mark_answer (Mark.Refused n) = n
+unfoldable pub mark_answer : Outcome Mark → ℕ
+mark_answer (done Mark.Right) = 0
+mark_answer (done Mark.Wrong) = 255
+mark_answer (refused n) = n
 
 -- a mark that its number tells from every other such mark
-abbrev pub Tellable : Mark → Type 0
-Tellable Mark.Right = Unit {0}
-Tellable Mark.Wrong = Unit {0}
-Tellable (Mark.Refused n) = (1 ≤ n) × (n ≤ 254)
+abbrev pub Tellable : Outcome Mark → Type 0
+Tellable (done Mark.Right) = Unit {0}
+Tellable (done Mark.Wrong) = Unit {0}
+Tellable (refused n) = (1 ≤ n) × (n ≤ 254)
 
 -- A paper's two blocks, whatever its bytes are: what stands before its first G (byte 71), and what stands from there on ----------
 
@@ -77,23 +77,23 @@ from_G (b ∷ bs) = if eqb b 71 then b ∷ bs else from_G bs
 
 -- on a sheet that is finished
 pub record Examined (s paper output : List ℕ) (whole : Run) : Type 0 where
-  pub right : paper ≡ right_paper whole → (marked s paper output).answer ≡ Mark.Right
-  pub wrong : ¬ (paper ≡ right_paper whole) → (marked s paper output).answer ≡ Mark.Wrong
+  pub right : paper ≡ right_paper whole → (marked s paper output).answer ≡ done Mark.Right
+  pub wrong : ¬ (paper ≡ right_paper whole) → (marked s paper output).answer ≡ done Mark.Wrong
   -- right exactly if both blocks are the sheet's: neither makes up for the other
-  pub both_right : before_G paper ≡ steps_block whole → from_G paper ≡ edges_block whole → (marked s paper output).answer ≡ Mark.Right
-  pub other_steps : ¬ (before_G paper ≡ steps_block whole) → (marked s paper output).answer ≡ Mark.Wrong
-  pub other_edges : ¬ (from_G paper ≡ edges_block whole) → (marked s paper output).answer ≡ Mark.Wrong
+  pub both_right : before_G paper ≡ steps_block whole → from_G paper ≡ edges_block whole → (marked s paper output).answer ≡ done Mark.Right
+  pub other_steps : ¬ (before_G paper ≡ steps_block whole) → (marked s paper output).answer ≡ done Mark.Wrong
+  pub other_edges : ¬ (from_G paper ≡ edges_block whole) → (marked s paper output).answer ≡ done Mark.Wrong
   -- G lines alone are never right, nor are P lines alone, whatever numbers stand on them; nor is an empty paper
-  pub edges_alone : (rows : List (List ℕ)) → paper ≡ concat_map (line 71) rows → (marked s paper output).answer ≡ Mark.Wrong
-  pub steps_alone : (rows : List (List ℕ)) → paper ≡ concat_map (line 80) rows → (marked s paper output).answer ≡ Mark.Wrong
-  pub empty_wrong : paper ≡ [] → (marked s paper output).answer ≡ Mark.Wrong
+  pub edges_alone : (rows : List (List ℕ)) → paper ≡ concat_map (line 71) rows → (marked s paper output).answer ≡ done Mark.Wrong
+  pub steps_alone : (rows : List (List ℕ)) → paper ≡ concat_map (line 80) rows → (marked s paper output).answer ≡ done Mark.Wrong
+  pub empty_wrong : paper ≡ [] → (marked s paper output).answer ≡ done Mark.Wrong
 
 pub record MarkingKept (s paper output : List ℕ) : Type 0 where
   pub examined : (whole : Run) → marked_run s output ≡ done whole → Examined s paper output whole
   -- no two papers are right
-  pub one_right : (other : List ℕ) → (marked s paper output).answer ≡ Mark.Right → (marked s other output).answer ≡ Mark.Right → paper ≡ other
+  pub one_right : (other : List ℕ) → (marked s paper output).answer ≡ done Mark.Right → (marked s other output).answer ≡ done Mark.Right → paper ≡ other
   -- a refusal has one of the call's numbers
-  pub numbers : (n : ℕ) → (marked s paper output).answer ≡ Mark.Refused n → Memᴰ n refusal_numbers
+  pub numbers : (n : ℕ) → (marked s paper output).answer ≡ refused n → Memᴰ n refusal_numbers
   -- what C is told settles the answer
   pub tellable : Tellable (marked s paper output).answer
-  pub told : (m : Mark) → Tellable m → mark_answer (marked s paper output).answer ≡ mark_answer m → (marked s paper output).answer ≡ m
+  pub told : (m : Outcome Mark) → Tellable m → mark_answer (marked s paper output).answer ≡ mark_answer m → (marked s paper output).answer ≡ m

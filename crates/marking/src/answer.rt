@@ -1,10 +1,8 @@
-// What marking answers.
+// What marking answers of a sheet that is not refused.
 
-#[derive(Clone, Copy)]
+#[derive(Clone, Copy, Debug, PartialEq, Eq)]
 pub enum Mark {
     // The paper is the P lines and then the G lines of the finished sheet.
     Right,
     Wrong,
-    // The sheet's number; the output is as it was.
-    Refused(u8),
 }

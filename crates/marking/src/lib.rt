@@ -3,10 +3,11 @@
 
 ghost use Rattle.std.specs.Prelude.{◌≡◌, ◌++◌};
 ghost use Rattle.plan.specs.Lists.{same};
+ghost use Rattle.plan.specs.Refusals.{outcome_of};
 ghost use Rattle.marking.specs.Marking.{mark_call, marked, verdict};
 
 use crate::answer::Mark;
-use plan::answer::Answer;
+use plan::refusal::Refusal;
 
 pub mod answer; // answer.rt: what marking answers
 pub mod line; // line.rt: the line that is printed for it
@@ -28,17 +29,13 @@ fn compare(paper: &[u8], steps: &[u8], edges: &[u8]) -> Mark
 }
 
 // The definition decides the answer and every byte of the output: the finished sheet, unless the sheet is refused.
-pub fn mark(sheet: &[u8], paper: &[u8], out: &mut [u8]) -> Mark
-    ensures { mark_call result out.new ≡ marked sheet.now paper.now out.old }
+pub fn mark(sheet: &[u8], paper: &[u8], out: &mut [u8]) -> Result<Mark, Refusal>
+    ensures { mark_call (outcome_of result) out.new ≡ marked sheet.now paper.now out.old }
 {
-    match engine::finish(sheet, out) {
-        Answer::Finished(f) => {
-            let finished: &[u8] = out;
-            let exprs = f.exprs;
-            let steps = f.steps;
-            let edges = f.edges;
-            compare(paper, &finished[exprs..steps], &finished[steps..edges])
-        }
-        Answer::Refused(k) => Mark::Refused(k),
-    }
+    let ends = engine::finish(sheet, out)?;
+    let finished: &[u8] = out;
+    let exprs = ends.exprs;
+    let steps = ends.steps;
+    let edges = ends.edges;
+    Ok(compare(paper, &finished[exprs..steps], &finished[steps..edges]))
 }

@@ -1,7 +1,7 @@
 -- The edges out of a step are found by going through all edges.
 use Rattle.std.specs.Prelude.{if◌then◌else◌}
 use mathlib.Core.Path.{◌≡◌, refl, sym, ap, ap₂, ◌∙◌}
-use Prim.Native.Nat.{ℕ, suc, ◌+◌, ◌<◌}
+use Prim.Native.Nat.{ℕ, zero, suc, ◌+◌, ◌<◌, ◌≤◌}
 use native.Mathlib.Omega.{arith}
 use native.Mathlib.Numerals.{add-one}
 use native.Mathlib.Decide.{dec_lt}
@@ -30,7 +30,7 @@ module _ (ends edges : List ℕ) (len n : ℕ) where
 
   -- The first of them: k edges were gone through, and none of them is one ------------------------------------------------------------
 
-  abbrev pub LeavesFrom : ℕ → Type 0
+  abbrev LeavesFrom : ℕ → Type 0
   LeavesFrom k = leaving_among n ds ≡ k + leaving_among n (drop k ds)
 
   leaves : (k : ℕ) → k < len → (b : Bool) → is_out_of n (edge k) ≡ b
@@ -48,21 +48,22 @@ module _ (ends edges : List ℕ) (len n : ℕ) where
       by true m = refl
       by false m = refl
 
-  pub leaves_start : LeavesFrom 0
-  leaves_start = omega arith
+  -- none of the first k is one
+  none_before : (k : ℕ) → k ≤ len → ((j : ℕ) → j < k → is_out_of n (edge j) ≡ false) → LeavesFrom k
+  none_before zero h f = omega arith
+  none_before (suc k) h f =
+      let v : LeavesFrom k = none_before k (omega arith) (λ j l. f j (omega arith)) in
+      omega (arith, v, rw add-one at (leaves k (omega arith) false (f k (omega arith))))
 
-  pub leaves_here : (k : ℕ) → k < len → is_out_of n (edge k) ≡ true → LeavesFrom k → k ≡ leaving_among n ds
-  leaves_here k h e v = omega (arith, v, leaves k h true e)
+  pub first_leaves : (k : ℕ) → k < len → is_out_of n (edge k) ≡ true → ((j : ℕ) → j < k → is_out_of n (edge j) ≡ false) → k ≡ leaving_among n ds
+  first_leaves k h e f = omega (arith, none_before k (omega arith) f, leaves k h true e)
 
-  pub leaves_later : (k : ℕ) → k < len → is_out_of n (edge k) ≡ false → LeavesFrom k → LeavesFrom (k + 1)
-  leaves_later k h e v = omega (arith, v, leaves k h false e)
-
-  pub none_leaves : (k : ℕ) → k ≡ len → LeavesFrom k → k ≡ leaving_among n ds
+  pub none_leaves : ((j : ℕ) → j < len → is_out_of n (edge j) ≡ false) → len ≡ leaving_among n ds
   unfolding stored_edges leaving_among
-  none_leaves k i v =
-      let last : drop k (table edge 0 len) ≡ [] =
-      ap (λ (j : ℕ). drop j (table edge 0 len)) (i ∙ sym (length_table edge 0 len)) ∙ drop-length (table edge 0 len) in
-      let w : leaving_among n (table edge 0 len) ≡ k + 0 = rw last at v in
+  none_leaves f =
+      let last : drop len (table edge 0 len) ≡ [] =
+      ap (λ (j : ℕ). drop j (table edge 0 len)) (sym (length_table edge 0 len)) ∙ drop-length (table edge 0 len) in
+      let w : leaving_among n (table edge 0 len) ≡ len + 0 = rw last at (none_before len (omega arith) f) in
       omega (arith, w)
 
   -- is it unordered?

@@ -5,7 +5,7 @@ use native.Mathlib.Omega.{arith}
 use native.Mathlib.Decide.{dec_lt}
 use mathlib.Core.Bool.{true, false}
 use mathlib.Core.List.{List}
-use lib.ListN.{get_or, get_or-eq_default}
+use lib.ListN.{length, get_or, get_or-eq_default}
 use Rattle.plan.specs.Graph.{Edge}
 use Rattle.storage.proofs.Laws.{length_table, table_at}
 use Rattle.plan.specs.Visit.{no_edge, out_edge}
@@ -36,6 +36,13 @@ module _ (ends edges : List ℕ) (len n k : ℕ)
           let z : ◌≡◌ {A = ℕ} 0 1 = cc in
           absurd (omega arith)
 
-  pub edge_is : out_edge n ds ≡ stored_edge ends edges k
+  pub entry_is : get_or ds k no_edge ≡ stored_edge ends edges k
   unfolding stored_edges
-  edge_is = at_number ∙ table_at (stored_edge ends edges) len k no_edge edge_there
+  entry_is = table_at (stored_edge ends edges) len k no_edge edge_there
+
+  pub entry_there : k < length ds
+  unfolding stored_edges
+  entry_there = omega (arith, edge_there, length_table (stored_edge ends edges) 0 len)
+
+  pub edge_is : out_edge n ds ≡ stored_edge ends edges k
+  edge_is = at_number ∙ entry_is

@@ -1,13 +1,12 @@
 -- What the code of a visit finds and leaves, of the edges and of the steps.
-use Rattle.std.specs.Prelude.{◌≡◌, ℕ, ◌+◌, ◌*◌, ◌-◌, ◌≤◌, ◌<◌, Bool, true, false, List, map, length, get_or, set, if◌then◌else◌}
+use Rattle.std.specs.Prelude.{◌≡◌, ℕ, ◌-◌, ◌≤◌, ◌<◌, Bool, true, false, List, map, length, get_or, set, if◌then◌else◌}
 use Rattle.std.proofs.Math.Option.{Option, none}
 use Rattle.plan.specs.Sheet.{Step, step_at}
 use Rattle.plan.specs.Graph.{Edge}
 use Rattle.storage.specs.Stored.{table}
 use Rattle.plan.specs.declared.rules.Loosened.{Loosened}
 use Rattle.plan.specs.Visit as Visit
-use Rattle.storage.specs.Edges.{mark, stored_edge}
-use Rattle.storage.specs.declared.edges.GraphSize.{GraphSize}
+use Rattle.storage.specs.Edges.{mark}
 use Rattle.node_rules.specs.declared.around.InEdges.{InEdges}
 
 -- The edges of a step among all ------------------------------------------------------------------------------------------------------
@@ -56,16 +55,15 @@ cut_off n d =
 -- Edges and steps together ----------------------------------------------------------------------------------------------------------
 
 -- every edge leads to a slot of a step
-pub record EdgesHeld (steps : List ℕ) (size : GraphSize) (ends edges : List ℕ) : Type 0 where
-  pub few : size.edges ≤ 256
-  pub bytes : length edges ≡ 512
-  pub there : (k : ℕ) → k < size.edges → (stored_edge ends edges k).consumer < size.steps
-  pub slots : (k : ℕ) → k < size.edges → (stored_edge ends edges k).slot < get_or steps ((stored_edge ends edges k).consumer * 32 + 4) 0
+pub record EdgesHeld (ps : List Step) (ds : List Edge) : Type 0 where
+  pub there : (k : ℕ) → k < length ds → (get_or ds k Visit.no_edge).consumer < length ps
+  pub slots : (k : ℕ) → k < length ds
+      → (get_or ds k Visit.no_edge).slot < length (step_at ps (get_or ds k Visit.no_edge).consumer).inputs
 
 -- step n has an input, and an unordered edge leaves it
-pub record Unlinkable (bytes : List ℕ) (steps n : ℕ) (ds : List Edge) : Type 0 where
-  pub step : n < steps
-  pub reads : 1 ≤ get_or bytes (n * 32 + 4) 0
+pub record Unlinkable (ps : List Step) (n : ℕ) (ds : List Edge) : Type 0 where
+  pub step : n < length ps
+  pub reads : 1 ≤ length (step_at ps n).inputs
   pub unordered : (Visit.out_edge n ds).unordered ≡ true
 
 -- steps and edges after unlink_node, from those before

@@ -1,13 +1,15 @@
 // What a visit that removes nothing makes of a step and its edges: the match of simplify_ir_node_orders, an arm per kind.
-ghost use Rattle.std.specs.Prelude.{◌≡◌, false, if◌then◌else◌};
+ghost use Rattle.std.specs.Prelude.{◌≡◌, false};
+ghost use Rattle.plan.specs.Refusals.{fault_number};
 ghost use Rattle.plan.specs.FunctionIR.{rust_functions};
 ghost use Rattle.plan.specs.Visit.{rule, arm, ruled, unmaintained_if, first_or_last, is_hstack, select_in, select_out, sort_in, filter_in, filter_out, group_by_in, group_by_out, gather_idxs, gather_out, union_all, map_in, map_out, cache_in, cache_outs, sink_in, allow_deordering_top, refusal_number};
 
 use crate::joins::join_rule;
-use plan::choice::pick_byte;
+use plan::choice::pick;
 use plan::distinct::UniqueKeepStrategy;
 use plan::function_ir::FunctionIR;
 use plan::ir::IR;
+use plan::refusal::Refusal;
 use plan::rules::{Around, Loosened, Observable, Options, Ruled};
 
 // With these options, and these edges loosened: into slot 0, into the later slots, out.
@@ -16,11 +18,7 @@ pub fn ruled(s: Options, in0: bool, later: bool, out: bool) -> Ruled
 {
     Ruled {
         options: s,
-        loosened: Loosened {
-            in0: in0,
-            later: later,
-            out: out,
-        },
+        loosened: Loosened { in0, later, out },
     }
 }
 
@@ -28,13 +26,9 @@ pub fn ruled(s: Options, in0: bool, later: bool, out: bool) -> Ruled
 fn unmaintained(s: Options, off: bool, in0: bool, later: bool, out: bool) -> Ruled
     ensures { result ≡ ruled (unmaintained_if off s) in0 later out }
 {
-    let kind = s.kind;
     let options = Options {
-        kind: kind,
-        a: pick_byte(off, 0, s.a),
-        b: s.b,
-        c: s.c,
-        n2: s.n2,
+        a: pick(off, 0, s.a),
+        ..s
     };
     ruled(options, in0, later, out)
 }
@@ -43,8 +37,7 @@ fn unmaintained(s: Options, off: bool, in0: bool, later: bool, out: bool) -> Rul
 fn is_hstack(s: Options) -> bool
     ensures { result ≡ is_hstack s }
 {
-    let kind = s.kind;
-    (kind.number() == 4) & !(s.a == s.n2)
+    (s.kind == IR::HStack) & (s.a != s.n2)
 }
 
 // Select and HStack.
@@ -92,36 +85,22 @@ fn group_by_rule(s: Options, e: Around, o: Observable) -> Ruled
 fn first_or_last(k: UniqueKeepStrategy) -> bool
     ensures { result ≡ first_or_last k }
 {
-    match k {
-        UniqueKeepStrategy::First => true,
-        UniqueKeepStrategy::Last => true,
-        UniqueKeepStrategy::Any => false,
-        UniqueKeepStrategy::None => false,
-    }
+    matches!(k, UniqueKeepStrategy::First | UniqueKeepStrategy::Last)
 }
 
-// Any, where the order that First or Last needs is gone.
-fn any_if(lost: bool, k: UniqueKeepStrategy) -> UniqueKeepStrategy
-    ensures { result ≡ (if lost then UniqueKeepStrategy.Any else k) }
-{
-    if lost { UniqueKeepStrategy::Any } else { k }
-}
-
+#[tactic(auto, unfolding(plan::specs::Visit::arm))]
 fn distinct_rule(s: Options, e: Around, o: Observable) -> Ruled
     ensures { result ≡ arm s e o rust_functions IR.Distinct }
 {
-    let kind = s.kind;
     let keep = UniqueKeepStrategy::of_number(s.c);
     let needs_order = first_or_last(keep);
-    let distinct_out = !(s.a == 1) | (e.out & !(s.b == 1));
+    let distinct_out = (s.a != 1) | (e.out & (s.b != 1));
     let distinct_in = e.in0 | (distinct_out & !needs_order);
-    let keeps = any_if(distinct_in & needs_order, keep);
+    let keeps = pick(distinct_in & needs_order, UniqueKeepStrategy::Any, keep);
     let options = Options {
-        kind: kind,
-        a: pick_byte(distinct_out | distinct_in, 0, s.a),
-        b: s.b,
-        c: keeps.number(),
-        n2: s.n2,
+        a: pick(distinct_out | distinct_in, 0, s.a),
+        c: u8::from(keeps),
+        ..s
     };
     ruled(options, distinct_in, false, distinct_out)
 }
@@ -135,11 +114,12 @@ fn gather_rule(s: Options, e: Around, o: Observable) -> Ruled
 fn union_rule(s: Options, e: Around, o: Observable) -> Ruled
     ensures { result ≡ ruled (unmaintained_if (union_all s e o) s) (union_all s e o) (union_all s e o) (union_all s e o) }
 {
-    let all = !(s.a == 1) | (e.out & !(s.b == 1));
+    let all = (s.a != 1) | (e.out & (s.b != 1));
     unmaintained(s, all, all, all, all)
 }
 
 // It becomes a Union.
+#[tactic(auto, unfolding(plan::specs::Visit::arm))]
 fn merge_sorted_rule(s: Options, e: Around, o: Observable) -> Ruled
     ensures { result ≡ arm s e o rust_functions IR.MergeSorted }
 {
@@ -149,7 +129,7 @@ fn merge_sorted_rule(s: Options, e: Around, o: Observable) -> Ruled
             a: 0,
             b: 0,
             c: 0,
-            n2: s.n2,
+            ..s
         };
         return ruled(options, true, true, true);
     }
@@ -177,16 +157,16 @@ fn cache_rule(s: Options, e: Around, o: Observable) -> Ruled
 fn sink_rule(s: Options, e: Around, o: Observable) -> Ruled
     ensures { result ≡ ruled (unmaintained_if (sink_in s e o) s) (sink_in s e o) false false }
 {
-    let sink_in = !(s.a == 1) | e.in0;
+    let sink_in = (s.a != 1) | e.in0;
     unmaintained(s, sink_in, sink_in, false, false)
 }
 
 // The match: an arm per kind.
+#[tactic(auto, unfolding(plan::specs::Visit::arm))]
 pub fn rule_of(s: Options, e: Around, o: Observable) -> Ruled
     ensures { result ≡ rule rust_functions s e o }
 {
-    let kind = s.kind;
-    match kind {
+    match s.kind {
         IR::Scan => ruled(s, false, false, false),
         IR::UnoptimizedDispatch => ruled(s, false, false, false),
         IR::Sink => sink_rule(s, e, o),
@@ -210,32 +190,26 @@ pub fn rule_of(s: Options, e: Around, o: Observable) -> Ruled
 }
 
 // allow_deordering_top of the n2 list; of the n3 list it is false.
+#[tactic(auto, unfolding(plan::specs::Visit::allow_deordering_top))]
 pub fn allow_deordering_top(s: Options, e: Around) -> bool
     ensures { result ≡ allow_deordering_top s e }
 {
-    let kind = s.kind;
-    let k = kind.number();
-    if (k == 3) | (k == 4) {
-        return e.out & (e.in0 | !is_hstack(s));
+    match s.kind {
+        IR::Select | IR::HStack => e.out & (e.in0 | !is_hstack(s)),
+        IR::GroupBy => e.in0 & (s.a != 1),
+        _ => false,
     }
-    if k == 7 {
-        return e.in0 & !(s.a == 1);
-    }
-    false
 }
 
-// Join keys and the keys of a partitioned Sink should be elementwise: 10 or 11 where they are not, 0 where they are.
-pub fn refusal_of(s: Options, o: Observable) -> u8
-    ensures { result ≡ refusal_number s o }
+// Join keys and the keys of a partitioned Sink should be elementwise.
+#[tactic(auto, unfolding(plan::specs::Visit::refusal_number))]
+pub fn check_keys(s: Options, o: Observable) -> Result<(), Refusal>
+    ensures { fault_number result ≡ refusal_number s o }
 {
-    let kind = s.kind;
-    let k = kind.number();
     let elementwise = !(o.exprs.independent | o.aggs.independent) & !o.internal.column;
-    if (k == 9) & !elementwise {
-        return 10;
+    match s.kind {
+        IR::Join if !elementwise => Err(Refusal::JoinKeys),
+        IR::Sink if (s.b == 1) & !elementwise => Err(Refusal::SinkKeys),
+        _ => Ok(()),
     }
-    if (k == 2) & (s.b == 1) & !elementwise {
-        return 11;
-    }
-    0
 }

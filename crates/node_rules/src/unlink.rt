@@ -1,76 +1,67 @@
 // unlink_node: a removed sort's consumer takes the sort's input in its place.
-ghost use Rattle.std.specs.Prelude.{◌≡◌, List, map, ℕ, ◌≤◌, ◌<◌, length};
+ghost use Rattle.std.specs.Prelude.{◌≡◌, List, map, ℕ, ◌≤◌, ◌<◌};
 ghost use Rattle.plan.specs.Visit.{in_edge};
-ghost use Rattle.storage.specs.Stored.{stored_steps, StepsHeld};
-ghost use Rattle.storage.specs.Edges.{producer_of, stored_edges};
-ghost use Rattle.node_rules.specs.Held.{Among, InRun, RunFits, handed_on, cut_off, EdgesHeld, Unlinkable, Unlinked};
+ghost use Rattle.storage.specs.Edges.{producer_of};
+ghost use Rattle.storage.specs.Held.{steps_in, edges_in};
+ghost use Rattle.node_rules.specs.Held.{InRun, RunFits, handed_on, cut_off, EdgesHeld, Unlinkable, Unlinked};
 
 use crate::around::{InEdges, leaving_edge};
-use storage::edges::{
-    GraphSize, consumer_of, is_out_of, loosen_if, produce_if, producer_of, slot_of,
-};
-use storage::steps::first_input;
-use storage::store::store_input;
+use storage::edges::{consumer_of, is_out_of, loosen_if, produce_if, producer_of, slot_of};
+use storage::stored::{Edges, Steps};
 
-// The edges out of n, among the first `len`, are produced by `from`.
-fn hand_on(edges: &mut [u8; 512], len: usize, n: u8, from: u8)
-    requires { Among len n × (length edges.old ≡ 512) }
-    ensures by_index { (ends : List ℕ) → stored_edges ends edges.new len ≡ map (handed_on n (producer_of from)) (stored_edges ends edges.old len) }
-    ensures edges_len { length edges.new ≡ 512 }
+// The edges out of n are produced by `from`.
+fn hand_on(edges: &mut Edges, n: u8, from: u8)
+    requires { n < 32 }
+    ensures edges_after { (ends : List ℕ) → edges_in ends edges.new ≡ map (handed_on n (producer_of from)) (edges_in ends edges.old) }
+    ensures count { edges.new.count ≡ edges.old.count }
 {
-    let mut k: usize = 0;
-    while k < len {
-        let out_of = is_out_of(edges, k, n);
-        produce_if(edges, k, out_of, from);
-        k = k + 1;
+    for k in 0..edges.count {
+        let out_of = is_out_of(&edges.bytes, k, n);
+        produce_if(&mut edges.bytes, k, out_of, from);
     }
 }
 
-// The edges into a step, which are d, lose their producer (255) and are unordered.
-fn cut_off(edges: &mut [u8; 512], d: InEdges)
-    requires { RunFits 256 d × (length edges.old ≡ 512) }
-    ensures by_index { (ends : List ℕ) (len n : ℕ) → len ≤ 256 → InRun ends len n d → stored_edges ends edges.new len ≡ map (cut_off n) (stored_edges ends edges.old len) }
-    ensures edges_len { length edges.new ≡ 512 }
-{
-    let mut k = d.from;
-    while k < d.to {
-        produce_if(edges, k, true, 255);
-        loosen_if(edges, k, true);
-        k = k + 1;
+impl InEdges {
+    // They lose their producer (255) and are unordered.
+    fn cut_off(self, edges: &mut Edges)
+        requires { RunFits 256 self }
+        ensures edges_after { (ends : List ℕ) (n : ℕ) → InRun ends edges.old.count n self → edges_in ends edges.new ≡ map (cut_off n) (edges_in ends edges.old) }
+        ensures count { edges.new.count ≡ edges.old.count }
+    {
+        for k in self.from..self.to {
+            produce_if(&mut edges.bytes, k, true, 255);
+            loosen_if(&mut edges.bytes, k, true);
+        }
     }
-}
 
-// What produces the first of the edges d into a step, or 255 if there is none.
-fn producer_into(edges: &[u8; 512], d: InEdges) -> u8
-    requires { d.to ≤ 256 }
-    ensures { (ends : List ℕ) (len n : ℕ) → InRun ends len n d → producer_of result ≡ (in_edge n (stored_edges ends edges.now len)).producer }
-{
-    let k = d.from;
-    if k < d.to { producer_of(edges, k) } else { 255 }
+    // What produces the first of them, or 255 if there is none.
+    fn producer(self, edges: &Edges) -> u8
+        requires { self.to ≤ 256 }
+        ensures { (ends : List ℕ) (n : ℕ) → InRun ends edges.now.count n self → producer_of result ≡ (in_edge n (edges_in ends edges.now)).producer }
+    {
+        if self.from < self.to {
+            producer_of(&edges.bytes, self.from)
+        } else {
+            255
+        }
+    }
 }
 
 // n's consumer takes n's input in its place, and what produces that is what produces its edge. Its out-edge is there, since it is
 // unordered. d are the edges into n.
-pub fn unlink_node(
-    steps: &mut [u8; 1024],
-    ends: &[u8; 544],
-    edges: &mut [u8; 512],
-    size: GraphSize,
-    n: u8,
-    d: InEdges,
-)
-    requires steps_held { StepsHeld steps.old size.steps }
-    requires edges_held { EdgesHeld steps.old size ends.now edges.old × InRun ends.now size.edges n d }
-    requires unlinkable { Unlinkable steps.old size.steps n (stored_edges ends.now edges.old size.edges) }
-    ensures unlinked { Unlinked n (stored_steps steps.old size.steps) (stored_edges ends.now edges.old size.edges) (stored_steps steps.new size.steps) (stored_edges ends.now edges.new size.edges) }
-    ensures steps_held_2 { StepsHeld steps.new size.steps × (length edges.new ≡ 512) }
+pub fn unlink_node(steps: &mut Steps, ends: &[u8; 544], edges: &mut Edges, n: u8, d: InEdges)
+    requires edges_held { EdgesHeld (steps_in steps.old) (edges_in ends.now edges.old) × InRun ends.now edges.old.count n d }
+    requires unlinkable { Unlinkable (steps_in steps.old) n (edges_in ends.now edges.old) }
+    ensures unlinked { Unlinked n (steps_in steps.old) (edges_in ends.now edges.old) (steps_in steps.new) (edges_in ends.now edges.new) }
+    ensures steps_count { steps.new.count ≡ steps.old.count }
+    ensures edges_count { edges.new.count ≡ edges.old.count }
 {
-    let k = leaving_edge(edges, size.edges, n);
-    let c = consumer_of(ends, k) as usize;
-    let s = slot_of(ends, k) as usize;
-    let input = first_input(steps, size.steps, n as usize);
-    store_input(steps, size.steps, c, s, input);
-    let from = producer_into(edges, d);
-    hand_on(edges, size.edges, n, from);
-    cut_off(edges, d);
+    let leaving = leaving_edge(edges, n);
+    let consumer = usize::from(consumer_of(ends, leaving));
+    let slot = usize::from(slot_of(ends, leaving));
+    let input = steps.first_input(usize::from(n));
+    steps.store_input(consumer, slot, input);
+    let from = d.producer(edges);
+    hand_on(edges, n, from);
+    d.cut_off(edges);
 }

@@ -1,6 +1,5 @@
 -- The finished sheet of a sheet of bytes, and the call: its answer, and every byte of the output that is lent to it.
 use Rattle.std.specs.Prelude.{ℕ, Bool, List, ◌++◌, ltb, length, drop}
-use Rattle.plan.specs.declared.answer.Answer.{Answer}
 use Rattle.plan.specs.declared.answer.Finished.{Finished}
 use Rattle.plan.specs.Sheet.{Outcome, refused, done, ◌then◌, refuse◌when◌else◌, read}
 use Rattle.plan.specs.Faults.{checked}
@@ -19,7 +18,7 @@ finished s = run s then λ r. done (printed r)
 
 -- what a call answers, and the bytes of the output at its exit
 pub record Called : Type 0 where
-  pub answer : Answer
+  pub answer : Outcome Finished
   pub output : List ℕ
 
 -- where the blocks end in the output, and the tallies
@@ -37,9 +36,9 @@ finished_answer r =
 
 -- a refusal alters no byte; a finished sheet stands at the front, and what stood behind it stays
 unfoldable pub called : List ℕ → Outcome Run → Called
-called output (refused n) = record { answer = Answer.Refused n; output = output }
+called output (refused n) = record { answer = refused n; output = output }
 called output (done r) =
-    record { answer = Answer.Finished (finished_answer r); output = printed r ++ drop (length (printed r)) output }
+    record { answer = done (finished_answer r); output = printed r ++ drop (length (printed r)) output }
 
 -- 1 --
 abbrev pub too_short : List ℕ → Bool
@@ -51,11 +50,11 @@ finish s output = called output (refuse 1 when too_short output else run s)
 -- What an answer says, by document 01 ----------------------------------------------------------------------------------------
 
 -- the refusal's number; 0 for none
-abbrev pub answer_number : Answer → ℕ
-answer_number (Answer.Finished f) = 0
-answer_number (Answer.Refused n) = n
+abbrev pub answer_number : Outcome Finished → ℕ
+answer_number (done f) = 0
+answer_number (refused n) = n
 
 -- the finished sheet's length; a refusal has length 0
-abbrev pub answer_length : Answer → ℕ
-answer_length (Answer.Finished f) = f.length
-answer_length (Answer.Refused n) = 0
+abbrev pub answer_length : Outcome Finished → ℕ
+answer_length (done f) = f.length
+answer_length (refused n) = 0

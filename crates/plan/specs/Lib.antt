@@ -13,3 +13,4 @@ pub mod Walks
 pub mod Text
 pub mod Finished
 pub mod Conditions
+pub mod Refusals

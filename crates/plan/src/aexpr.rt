@@ -1,9 +1,11 @@
 // The kinds of expression records: AExpr of plans/aexpr/mod.rs, with the aggregates of IRAggExpr beside the rest.
 ghost use Rattle.std.specs.Prelude.{◌≡◌};
-ghost use Rattle.plan.specs.Kinds.{aexpr, aexpr_number};
+ghost use Rattle.plan.specs.Kinds.{aexpr, aexpr_number, in_table};
+
+use crate::refusal::Refusal;
 
 // MinBy stands for MaxBy too, First for Last and their NonNull forms, Min for every aggregate that lifts order (Min to Var).
-#[derive(Clone, Copy)]
+#[derive(Clone, Copy, Debug, PartialEq, Eq)]
 pub enum AExpr {
     Column,
     Literal,
@@ -60,47 +62,34 @@ const AEXPRS: [AExpr; 25] = [
     AExpr::AggGroups,
 ];
 
+impl From<AExpr> for u8 {
+    ghost from_gives = { λ x k. k ≡ aexpr_number x };
+
+    fn from(x: AExpr) -> u8 {
+        x as u8
+    }
+}
+
+impl TryFrom<u8> for AExpr {
+    type Error = Refusal;
+
+    ghost try_from_gives = { λ k r. r ≡ in_table 25 aexpr k };
+
+    fn try_from(k: u8) -> Result<AExpr, Refusal> {
+        // not by `get`, as the shorter tables: over 25 entries the search does not prove that
+        if k < 25 {
+            Ok(AEXPRS[usize::from(k)])
+        } else {
+            Err(Refusal::Table)
+        }
+    }
+}
+
 impl AExpr {
-    // By its number on a sheet. A number past the table, which refusal 4 turns back, is given the first.
+    // By its number on a sheet. A number past the table, which is refused, is given the first.
     pub fn of_number(k: u8) -> AExpr
         ensures { result ≡ aexpr k }
     {
-        if k < 25 {
-            AEXPRS[k as usize]
-        } else {
-            AExpr::Column
-        }
-    }
-
-    pub fn number(self) -> u8
-        ensures { result ≡ aexpr_number self }
-    {
-        match self {
-            AExpr::Column => 0,
-            AExpr::Literal => 1,
-            AExpr::Element => 2,
-            AExpr::StructField => 3,
-            AExpr::Len => 4,
-            AExpr::BinaryExpr => 5,
-            AExpr::Ternary => 6,
-            AExpr::Cast => 7,
-            AExpr::Explode => 8,
-            AExpr::Sort => 9,
-            AExpr::SortBy => 10,
-            AExpr::Filter => 11,
-            AExpr::Gather => 12,
-            AExpr::Slice => 13,
-            AExpr::Eval => 14,
-            AExpr::StructEval => 15,
-            AExpr::Over => 16,
-            AExpr::Rolling => 17,
-            AExpr::MinBy => 18,
-            AExpr::Function => 19,
-            AExpr::AnonymousAgg => 20,
-            AExpr::First => 21,
-            AExpr::Min => 22,
-            AExpr::Implode => 23,
-            AExpr::AggGroups => 24,
-        }
+        AExpr::try_from(k).unwrap_or(AExpr::Column)
     }
 }

@@ -1,4 +1,4 @@
-// What the call answers.
+// What the call answers: a finished sheet, or why the sheet is refused.
 
 // The finished sheet stands at the front of the output: where its E, P and G lines and the whole end there, and the tallies of
 // its T line.
@@ -11,11 +11,4 @@ pub struct Finished {
     pub removed: usize,
     pub visits: u64,
     pub looks: u64,
-}
-
-#[derive(Clone, Copy)]
-pub enum Answer {
-    Finished(Finished),
-    // One of the refusal numbers; the output is as it was.
-    Refused(u8),
 }

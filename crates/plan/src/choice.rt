@@ -1,7 +1,7 @@
-// A choice between two bytes.
+// A choice between two values: both are there, so that no branch decides.
 ghost use Rattle.std.specs.Prelude.{◌≡◌, if◌then◌else◌};
 
-pub fn pick_byte(b: bool, x: u8, y: u8) -> u8
+pub fn pick<T: Copy>(b: bool, x: T, y: T) -> T
     ensures { result ≡ (if b then x else y) }
 {
     if b { x } else { y }

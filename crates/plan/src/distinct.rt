@@ -1,9 +1,11 @@
 // The option of a Distinct that is an enum.
 ghost use Rattle.std.specs.Prelude.{◌≡◌};
-ghost use Rattle.plan.specs.Kinds.{keep_strategy, keep_strategy_number};
+ghost use Rattle.plan.specs.Kinds.{keep_strategy, keep_strategy_number, in_table};
+
+use crate::refusal::Refusal;
 
 // Which of equal rows a Distinct keeps.
-#[derive(Clone, Copy)]
+#[derive(Clone, Copy, Debug, PartialEq, Eq)]
 pub enum UniqueKeepStrategy {
     First,
     Last,
@@ -18,26 +20,32 @@ const KEEP_STRATEGIES: [UniqueKeepStrategy; 4] = [
     UniqueKeepStrategy::None,
 ];
 
+impl From<UniqueKeepStrategy> for u8 {
+    ghost from_gives = { λ x k. k ≡ keep_strategy_number x };
+
+    fn from(x: UniqueKeepStrategy) -> u8 {
+        x as u8
+    }
+}
+
+impl TryFrom<u8> for UniqueKeepStrategy {
+    type Error = Refusal;
+
+    ghost try_from_gives = { λ k r. r ≡ in_table 4 keep_strategy k };
+
+    fn try_from(k: u8) -> Result<UniqueKeepStrategy, Refusal> {
+        KEEP_STRATEGIES
+            .get(usize::from(k))
+            .copied()
+            .ok_or(Refusal::Table)
+    }
+}
+
 impl UniqueKeepStrategy {
-    // By its number on a sheet. A number past the table, which refusal 4 turns back, is given the first.
+    // By its number on a sheet. A number past the table, which is refused, is given the first.
     pub fn of_number(k: u8) -> UniqueKeepStrategy
         ensures { result ≡ keep_strategy k }
     {
-        if k < 4 {
-            KEEP_STRATEGIES[k as usize]
-        } else {
-            UniqueKeepStrategy::First
-        }
-    }
-
-    pub fn number(self) -> u8
-        ensures { result ≡ keep_strategy_number self }
-    {
-        match self {
-            UniqueKeepStrategy::First => 0,
-            UniqueKeepStrategy::Last => 1,
-            UniqueKeepStrategy::Any => 2,
-            UniqueKeepStrategy::None => 3,
-        }
+        UniqueKeepStrategy::try_from(k).unwrap_or(UniqueKeepStrategy::First)
     }
 }

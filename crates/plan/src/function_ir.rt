@@ -1,10 +1,12 @@
 // The functions of a MapFunction: FunctionIR of plans/functions/mod.rs, with the methods that the port calls.
 ghost use Rattle.std.specs.Prelude.{◌≡◌};
 ghost use Rattle.plan.specs.FunctionIR.{is_order_producing, observes_input_order, has_equal_order};
-ghost use Rattle.plan.specs.Kinds.{function_ir, function_ir_number};
+ghost use Rattle.plan.specs.Kinds.{function_ir, function_ir_number, in_table};
+
+use crate::refusal::Refusal;
 
 // What a MapFunction does to the whole frame.
-#[derive(Clone, Copy)]
+#[derive(Clone, Copy, Debug, PartialEq, Eq)]
 pub enum FunctionIR {
     RowIndex,
     FastCount,
@@ -27,31 +29,33 @@ const FUNCTION_IRS: [FunctionIR; 8] = [
     FunctionIR::Hint,
 ];
 
+impl From<FunctionIR> for u8 {
+    ghost from_gives = { λ x k. k ≡ function_ir_number x };
+
+    fn from(x: FunctionIR) -> u8 {
+        x as u8
+    }
+}
+
+impl TryFrom<u8> for FunctionIR {
+    type Error = Refusal;
+
+    ghost try_from_gives = { λ k r. r ≡ in_table 8 function_ir k };
+
+    fn try_from(k: u8) -> Result<FunctionIR, Refusal> {
+        FUNCTION_IRS
+            .get(usize::from(k))
+            .copied()
+            .ok_or(Refusal::Table)
+    }
+}
+
 impl FunctionIR {
-    // By its number on a sheet. A number past the table, which refusal 4 turns back, is given the first.
+    // By its number on a sheet. A number past the table, which is refused, is given the first.
     pub fn of_number(k: u8) -> FunctionIR
         ensures { result ≡ function_ir k }
     {
-        if k < 8 {
-            FUNCTION_IRS[k as usize]
-        } else {
-            FunctionIR::RowIndex
-        }
-    }
-
-    pub fn number(self) -> u8
-        ensures { result ≡ function_ir_number self }
-    {
-        match self {
-            FunctionIR::RowIndex => 0,
-            FunctionIR::FastCount => 1,
-            FunctionIR::Unnest => 2,
-            FunctionIR::Rechunk => 3,
-            FunctionIR::Explode => 4,
-            FunctionIR::Unpivot => 5,
-            FunctionIR::Opaque => 6,
-            FunctionIR::Hint => 7,
-        }
+        FunctionIR::try_from(k).unwrap_or(FunctionIR::RowIndex)
     }
 
     pub fn is_order_producing(self, is_input_ordered: bool) -> bool

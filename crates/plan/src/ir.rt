@@ -1,9 +1,11 @@
 // The kinds of plan steps: IR of plans/ir/mod.rs.
 ghost use Rattle.std.specs.Prelude.{◌≡◌};
-ghost use Rattle.plan.specs.Kinds.{ir, ir_number};
+ghost use Rattle.plan.specs.Kinds.{ir, ir_number, in_table};
+
+use crate::refusal::Refusal;
 
 // Scan stands for DataFrameScan too.
-#[derive(Clone, Copy)]
+#[derive(Clone, Copy, Debug, PartialEq, Eq)]
 pub enum IR {
     Scan,
     UnoptimizedDispatch,
@@ -48,37 +50,29 @@ const IRS: [IR; 19] = [
     IR::Cache,
 ];
 
+impl From<IR> for u8 {
+    ghost from_gives = { λ x k. k ≡ ir_number x };
+
+    fn from(x: IR) -> u8 {
+        x as u8
+    }
+}
+
+impl TryFrom<u8> for IR {
+    type Error = Refusal;
+
+    ghost try_from_gives = { λ k r. r ≡ in_table 19 ir k };
+
+    fn try_from(k: u8) -> Result<IR, Refusal> {
+        IRS.get(usize::from(k)).copied().ok_or(Refusal::Table)
+    }
+}
+
 impl IR {
-    // By its number on a sheet. A number past the table, which refusal 4 turns back, is given the first.
+    // By its number on a sheet. A number past the table, which is refused, is given the first.
     pub fn of_number(k: u8) -> IR
         ensures { result ≡ ir k }
     {
-        if k < 19 { IRS[k as usize] } else { IR::Scan }
-    }
-
-    pub fn number(self) -> u8
-        ensures { result ≡ ir_number self }
-    {
-        match self {
-            IR::Scan => 0,
-            IR::UnoptimizedDispatch => 1,
-            IR::Sink => 2,
-            IR::Select => 3,
-            IR::HStack => 4,
-            IR::Sort => 5,
-            IR::Filter => 6,
-            IR::GroupBy => 7,
-            IR::Distinct => 8,
-            IR::Join => 9,
-            IR::Gather => 10,
-            IR::Union => 11,
-            IR::MergeSorted => 12,
-            IR::MapFunction => 13,
-            IR::HConcat => 14,
-            IR::Slice => 15,
-            IR::ExtContext => 16,
-            IR::SimpleProjection => 17,
-            IR::Cache => 18,
-        }
+        IR::try_from(k).unwrap_or(IR::Scan)
     }
 }

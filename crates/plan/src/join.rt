@@ -1,9 +1,11 @@
 // The options of a Join that are enums.
 ghost use Rattle.std.specs.Prelude.{◌≡◌};
-ghost use Rattle.plan.specs.Kinds.{join_type, join_type_number, maintain_order, maintain_order_number};
+ghost use Rattle.plan.specs.Kinds.{join_type, join_type_number, maintain_order, maintain_order_number, in_table};
+
+use crate::refusal::Refusal;
 
 // Other stands for every type that the rules do not tell apart.
-#[derive(Clone, Copy)]
+#[derive(Clone, Copy, Debug, PartialEq, Eq)]
 pub enum JoinType {
     Other,
     Semi,
@@ -18,32 +20,38 @@ const JOIN_TYPES: [JoinType; 4] = [
     JoinType::AsOf,
 ];
 
+impl From<JoinType> for u8 {
+    ghost from_gives = { λ x k. k ≡ join_type_number x };
+
+    fn from(x: JoinType) -> u8 {
+        x as u8
+    }
+}
+
+impl TryFrom<u8> for JoinType {
+    type Error = Refusal;
+
+    ghost try_from_gives = { λ k r. r ≡ in_table 4 join_type k };
+
+    fn try_from(k: u8) -> Result<JoinType, Refusal> {
+        JOIN_TYPES
+            .get(usize::from(k))
+            .copied()
+            .ok_or(Refusal::Table)
+    }
+}
+
 impl JoinType {
-    // By its number on a sheet. A number past the table, which refusal 4 turns back, is given the first.
+    // By its number on a sheet. A number past the table, which is refused, is given the first.
     pub fn of_number(k: u8) -> JoinType
         ensures { result ≡ join_type k }
     {
-        if k < 4 {
-            JOIN_TYPES[k as usize]
-        } else {
-            JoinType::Other
-        }
-    }
-
-    pub fn number(self) -> u8
-        ensures { result ≡ join_type_number self }
-    {
-        match self {
-            JoinType::Other => 0,
-            JoinType::Semi => 1,
-            JoinType::Anti => 2,
-            JoinType::AsOf => 3,
-        }
+        JoinType::try_from(k).unwrap_or(JoinType::Other)
     }
 }
 
 // Whose order a Join keeps.
-#[derive(Clone, Copy)]
+#[derive(Clone, Copy, Debug, PartialEq, Eq)]
 pub enum MaintainOrderJoin {
     None,
     Left,
@@ -60,27 +68,32 @@ const MAINTAIN_ORDERS: [MaintainOrderJoin; 5] = [
     MaintainOrderJoin::RightLeft,
 ];
 
+impl From<MaintainOrderJoin> for u8 {
+    ghost from_gives = { λ x k. k ≡ maintain_order_number x };
+
+    fn from(x: MaintainOrderJoin) -> u8 {
+        x as u8
+    }
+}
+
+impl TryFrom<u8> for MaintainOrderJoin {
+    type Error = Refusal;
+
+    ghost try_from_gives = { λ k r. r ≡ in_table 5 maintain_order k };
+
+    fn try_from(k: u8) -> Result<MaintainOrderJoin, Refusal> {
+        MAINTAIN_ORDERS
+            .get(usize::from(k))
+            .copied()
+            .ok_or(Refusal::Table)
+    }
+}
+
 impl MaintainOrderJoin {
-    // By its number on a sheet. A number past the table, which refusal 4 turns back, is given the first.
+    // By its number on a sheet. A number past the table, which is refused, is given the first.
     pub fn of_number(k: u8) -> MaintainOrderJoin
         ensures { result ≡ maintain_order k }
     {
-        if k < 5 {
-            MAINTAIN_ORDERS[k as usize]
-        } else {
-            MaintainOrderJoin::None
-        }
-    }
-
-    pub fn number(self) -> u8
-        ensures { result ≡ maintain_order_number self }
-    {
-        match self {
-            MaintainOrderJoin::None => 0,
-            MaintainOrderJoin::Left => 1,
-            MaintainOrderJoin::Right => 2,
-            MaintainOrderJoin::LeftRight => 3,
-            MaintainOrderJoin::RightLeft => 4,
-        }
+        MaintainOrderJoin::try_from(k).unwrap_or(MaintainOrderJoin::None)
     }
 }

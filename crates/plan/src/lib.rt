@@ -2,8 +2,8 @@
 #![tactic(auto)]
 
 pub mod aexpr; // aexpr.rt: AExpr
-pub mod answer; // answer.rt: Answer
-pub mod choice; // choice.rt: a choice between two bytes
+pub mod answer; // answer.rt: Finished
+pub mod choice; // choice.rt: a choice between two values
 pub mod distinct; // distinct.rt: UniqueKeepStrategy
 pub mod function_flags; // function_flags.rt: FunctionFlags
 pub mod function_ir; // function_ir.rt: FunctionIR
@@ -12,6 +12,7 @@ pub mod ir; // ir.rt: IR
 pub mod join; // join.rt: JoinType, MaintainOrderJoin
 pub mod looks; // looks.rt: Before, what a look reads before it goes along the children
 pub mod orders; // orders.rt: ObservableOrders, ExprOrderAcc
+pub mod refusal; // refusal.rt: Refusal
 pub mod rules; // rules.rt: Options, Around, Observable, Loosened, Ruled: what a rule reads and gives
 pub mod sizes; // sizes.rt: the length of an array, as a fact for proofs
 pub mod tally; // tally.rt: Tally

@@ -105,9 +105,9 @@ fit_expr k s l a n h = by (ltb k 25) (leb s 1) (leb l 1) _ refl refl refl h
   where
     by : (p q r x : Bool) → ltb k 25 ≡ p → leb s 1 ≡ q → leb l 1 ≡ r → (p && q && r && x) ≡ true → (k < 25) × ((s ≤ 1) × (l ≤ 1))
     by true true true x d e f g = (ltb-true k 25 d, (leb-true s 1 e, leb-true l 1 f))
-    by true true false x d e f g = let w : ◌≡◌ {A = ℕ} 0 1 = cc in absurd (omega arith)
-    by true false r x d e f g = let w : ◌≡◌ {A = ℕ} 0 1 = cc in absurd (omega arith)
-    by false q r x d e f g = let w : ◌≡◌ {A = ℕ} 0 1 = cc in absurd (omega arith)
+    by true true false x d e f g = absurd (cc)
+    by true false r x d e f g = absurd (cc)
+    by false q r x d e f g = absurd (cc)
 
 pub fit_kind : (k a b c n1 n2 n3 n : ℕ) → step_numbers_fit k a b c n1 n2 n3 n ≡ true → (k < 19) × (n ≡ 7 + n1 + n2 + n3)
 unfolding step_numbers_fit
@@ -115,8 +115,8 @@ fit_kind k a b c n1 n2 n3 n h = by (ltb k 19) (eqb n (7 + n1 + n2 + n3)) _ _ _ r
   where
     by : (p q x y z : Bool) → ltb k 19 ≡ p → eqb n (7 + n1 + n2 + n3) ≡ q → (p && q && x && y && z) ≡ true → (k < 19) × (n ≡ 7 + n1 + n2 + n3)
     by true true x y z e f g = (ltb-true k 19 e, eqb-true n (7 + n1 + n2 + n3) f)
-    by true false x y z e f g = let w : ◌≡◌ {A = ℕ} 0 1 = cc in absurd (omega arith)
-    by false q x y z e f g = let w : ◌≡◌ {A = ℕ} 0 1 = cc in absurd (omega arith)
+    by true false x y z e f g = absurd (cc)
+    by false q x y z e f g = absurd (cc)
 
 -- The letter and the count of numbers ----------------------------------------------------------------------------------------
 
@@ -216,7 +216,7 @@ or_both false b e f = f
 
 or_first : (a b : Bool) → a ≡ true → (a || b) ≡ true
 or_first true b e = refl
-or_first false b e = let w : ◌≡◌ {A = ℕ} 0 1 = cc in absurd (omega arith)
+or_first false b e = absurd (cc)
 
 module _ (es ps : List ℕ) (t : LineCounts) (snd : Sound es ps t) where
   abbrev sh : Sheet
@@ -281,7 +281,7 @@ is_ended s ns e = by (ended s) e
   where
     by : (b : Bool) → (if b then numbers_after (line s) else none) ≡ some ns → b ≡ true
     by true e = refl
-    by false e = let w : ◌≡◌ {A = ℕ} 0 1 = cc in absurd (omega arith)
+    by false e = absurd (cc)
 
 ended_after : (x : ℕ) (s : List ℕ) → eqb x 10 ≡ false → ended (x ∷ s) ≡ ended s
 unfolding ended

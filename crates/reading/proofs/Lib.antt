@@ -1,7 +1,5 @@
 pub mod Numbers
 pub mod LineFields
-pub mod Spans
-pub mod Rows
 pub mod Stores
 pub mod Checks
 pub mod Whole

@@ -1,5 +1,5 @@
 -- Laws of a line's fields.
-use Rattle.std.specs.Prelude.{if◌then◌else◌}
+use Rattle.std.specs.Prelude.{if◌then◌else◌, Some, None, Result, Ok, Err}
 use mathlib.Core.Path.{◌≡◌, refl, sym, ap, ◌∙◌}
 use mathlib.Core.Bool.{Bool, true, false, ◌||◌}
 use mathlib.Core.List.{List, [], ◌∷◌, ◌++◌, append_assoc, append-nil}
@@ -10,14 +10,15 @@ use lib.Dec.{eqb, ltb}
 use lib.ListN.{length, get_or, take, drop, set, length-drop, length-append, length-set, get_or-append}
 use lib.Seq.{get_or-set_same, get_or-set_other, get_or-append_seam}
 use native.Mathlib.Decide.{ℕ_discrete}
-use native.Mathlib.Nat.{le_refl, not-suc-le-zero}
+use native.Mathlib.Nat.{not-suc-le-zero}
 use borrow.Author.Tests.{ltb-true, ltb-false, eq-eqb, ne_eqb, eqb-true}
 use Rattle.plan.specs.Sheet.{parts, onto, numbers, number, cons?}
 use Rattle.plan.proofs.ListLaws.{part_from}
-use Rattle.reading.specs.Number.{separator?, field, number_at, found, width}
-use Rattle.reading.specs.Line.{line, ended, numbers_after, numbers_of, field_of, field_at, placed, Kept, NumbersRead}
+use Rattle.plan.specs.declared.refusal.Refusal.{Refusal}
+use Rattle.reading.specs.Number.{separator?, field, number_at, found}
+use Rattle.reading.specs.Field.{Field, field_of, field_at}
+use Rattle.reading.specs.Line.{line, ended, numbers_after, numbers_of, placed, Kept, NumbersRead}
 use Rattle.reading.specs.declared.number.Number.{Number}
-use Rattle.reading.specs.declared.line.Field.{Field}
 
 pub length_from : (s : List ℕ) (a : ℕ) → length (take (length s - a) (drop a s)) ≡ length s - a
 length_from s a = ap length (part_from s a) ∙ length-drop a s
@@ -78,9 +79,6 @@ unfolding parts line ended field numbers_after numbers
 divided [] = record { parted = refl; told = refl; ends = refl; long = refl; fits = omega arith }
 divided (x ∷ m) = divided_by x m (eqb x 44) (eqb x 10) refl refl (divided m)
 
-true_false : true ≡ false → ⊥
-true_false e = let z : ◌≡◌ {A = ℕ} 0 1 = cc in omega arith
-
 -- What stands at the front --------------------------------------------------------------------------------------------------
 
 none_joins : (o : Option ℕ) → cons? o none ≡ none
@@ -103,20 +101,22 @@ pub record Stood (s : List ℕ) (x n : ℕ) : Type 0 where
   pub some_bytes : 1 ≤ n
   pub fits : n ≤ length s
 
-found_value : (o : Option ℕ) (w x n : ℕ) → field_of (found o w) ≡ Field.Number x n → (o ≡ some x) × (w + 1 ≡ n)
-found_value none w x n e = let z : ◌≡◌ {A = ℕ} 0 1 = cc in absurd (omega arith)
-found_value (some v) w x n e = (cc, cc)
+found_value : (o : Option ℕ) (w : ℕ) (f : Number) → field_of (found o w) ≡ Ok (Some f) → (o ≡ some f.value) × (w + 1 ≡ f.width)
+found_value none w f e = absurd (cc)
+found_value (some v) w f e =
+    let q : ◌≡◌ {A = Number} (record { value = v; width = w + 1 }) f = cc in
+    (ap (λ (x : Number). some x.value) q, ap (λ (x : Number). x.width) q)
 
-found_end : (o : Option ℕ) (w : ℕ) → field_of (found o w) ≡ Field.End → ⊥
-found_end none w e = let z : ◌≡◌ {A = ℕ} 0 1 = cc in omega arith
-found_end (some v) w e = let z : ◌≡◌ {A = ℕ} 0 1 = cc in omega arith
+found_end : (o : Option ℕ) (w : ℕ) → field_of (found o w) ≡ Ok None → ⊥
+found_end none w e = cc
+found_end (some v) w e = cc
 
-found_broken : (o : Option ℕ) (w : ℕ) → field_of (found o w) ≡ Field.Broken → o ≡ none
-found_broken none w e = refl
-found_broken (some v) w e = let z : ◌≡◌ {A = ℕ} 0 1 = cc in absurd (omega arith)
+found_broken : (o : Option ℕ) (w : ℕ) (r : Refusal) → field_of (found o w) ≡ Err r → (o ≡ none) × (r ≡ Refusal.Form)
+found_broken none w r e = (refl, cc)
+found_broken (some v) w r e = absurd (cc)
 
 abbrev picked : Bool → Bool → Field → Field
-picked a b f = if a then Field.End else if b then f else Field.Broken
+picked a b f = if a then Ok None else if b then f else Err Refusal.Form
 
 comma_stood : (m : List ℕ) (x w n : ℕ) → number (field m) ≡ some x → length (field m) ≡ w → n ≡ suc w → Stood (44 ∷ m) x n
 unfolding line
@@ -129,27 +129,27 @@ comma_stood m x w n e f g =
       fits = omega (arith, (divided m).fits);
     }
 
-stood_by : (y : ℕ) (m : List ℕ) (x n : ℕ) (a b : Bool) → eqb y 44 ≡ b → picked a b (field_of (found (number (field m)) (length (field m)))) ≡ Field.Number x n → Stood (y ∷ m) x n
-stood_by y m x n true b f e = let z : ◌≡◌ {A = ℕ} 0 1 = cc in absurd (omega arith)
-stood_by y m x n false false f e = let z : ◌≡◌ {A = ℕ} 0 1 = cc in absurd (omega arith)
-stood_by y m x n false true f e =
-    let (o, w) = found_value (number (field m)) (length (field m)) x n e in
-    rw (eqb-true y 44 f) (comma_stood m x (length (field m)) n o refl (omega (arith, w)))
+stood_by : (y : ℕ) (m : List ℕ) (f : Number) (a b : Bool) → eqb y 44 ≡ b → picked a b (field_of (found (number (field m)) (length (field m)))) ≡ Ok (Some f) → Stood (y ∷ m) f.value f.width
+stood_by y m f true b g e = absurd (cc)
+stood_by y m f false false g e = absurd (cc)
+stood_by y m f false true g e =
+    let (o, w) = found_value (number (field m)) (length (field m)) f e in
+    rw (eqb-true y 44 g) (comma_stood m f.value (length (field m)) f.width o refl (omega (arith, w)))
 
-pub stood : (s : List ℕ) (x n : ℕ) → field_at s ≡ Field.Number x n → Stood s x n
+pub stood : (s : List ℕ) (f : Number) → field_at s ≡ Ok (Some f) → Stood s f.value f.width
 unfolding field_at number_at
-stood [] x n e = let z : ◌≡◌ {A = ℕ} 0 1 = cc in absurd (omega arith)
-stood (y ∷ m) x n e = stood_by y m x n (eqb y 10) (eqb y 44) refl e
+stood [] f e = absurd (cc)
+stood (y ∷ m) f e = stood_by y m f (eqb y 10) (eqb y 44) refl e
 
-end_by : (y : ℕ) (m : List ℕ) (a b : Bool) → eqb y 10 ≡ a → picked a b (field_of (found (number (field m)) (length (field m)))) ≡ Field.End → (numbers_of (y ∷ m) ≡ some []) × (line (y ∷ m) ≡ [])
+end_by : (y : ℕ) (m : List ℕ) (a b : Bool) → eqb y 10 ≡ a → picked a b (field_of (found (number (field m)) (length (field m)))) ≡ Ok None → (numbers_of (y ∷ m) ≡ some []) × (line (y ∷ m) ≡ [])
 unfolding numbers_of ended line numbers_after
 end_by y m true b f e = (rw (numbers_of, ended, line, f), rw (line, f))
-end_by y m false false f e = let z : ◌≡◌ {A = ℕ} 0 1 = cc in absurd (omega arith)
+end_by y m false false f e = absurd (cc)
 end_by y m false true f e = absurd (found_end (number (field m)) (length (field m)) e)
 
-at_end : (s : List ℕ) → field_at s ≡ Field.End → (numbers_of s ≡ some []) × (line s ≡ [])
+at_end : (s : List ℕ) → field_at s ≡ Ok None → (numbers_of s ≡ some []) × (line s ≡ [])
 unfolding field_at number_at
-at_end [] e = let z : ◌≡◌ {A = ℕ} 0 1 = cc in absurd (omega arith)
+at_end [] e = absurd (cc)
 at_end (y ∷ m) e = end_by y m (eqb y 10) (eqb y 44) refl e
 
 no_comma : (y : ℕ) (m : List ℕ) → eqb y 10 ≡ false → eqb y 44 ≡ false → numbers_of (y ∷ m) ≡ none
@@ -160,15 +160,18 @@ no_comma y m f g = by (ended m) refl
     by true e = rw (numbers_of, ended, line, f) (rw (e, g))
     by false e = rw (numbers_of, ended, line, f) (rw e)
 
-broken_by : (y : ℕ) (m : List ℕ) (a b : Bool) → eqb y 10 ≡ a → eqb y 44 ≡ b → picked a b (field_of (found (number (field m)) (length (field m)))) ≡ Field.Broken → numbers_of (y ∷ m) ≡ none
-broken_by y m true b f g e = let z : ◌≡◌ {A = ℕ} 0 1 = cc in absurd (omega arith)
-broken_by y m false false f g e = no_comma y m f g
-broken_by y m false true f g e = rw (eqb-true y 44 g) (numbers_comma m ∙ ap (λ o. cons? o (numbers_of (rest_of m))) (found_broken (number (field m)) (length (field m)) e))
+broken_by : (y : ℕ) (m : List ℕ) (r : Refusal) (a b : Bool) → eqb y 10 ≡ a → eqb y 44 ≡ b → picked a b (field_of (found (number (field m)) (length (field m)))) ≡ Err r
+    → (numbers_of (y ∷ m) ≡ none) × (r ≡ Refusal.Form)
+broken_by y m r true b f g e = absurd (cc)
+broken_by y m r false false f g e = (no_comma y m f g, cc)
+broken_by y m r false true f g e =
+    let (o, form) = found_broken (number (field m)) (length (field m)) r e in
+    (rw (eqb-true y 44 g) (numbers_comma m ∙ ap (λ o. cons? o (numbers_of (rest_of m))) o), form)
 
-broken : (s : List ℕ) → field_at s ≡ Field.Broken → numbers_of s ≡ none
+broken : (s : List ℕ) (r : Refusal) → field_at s ≡ Err r → (numbers_of s ≡ none) × (r ≡ Refusal.Form)
 unfolding field_at number_at numbers_of ended
-broken [] e = refl
-broken (y ∷ m) e = broken_by y m (eqb y 10) (eqb y 44) refl refl e
+broken [] r e = (refl, cc)
+broken (y ∷ m) r e = broken_by y m r (eqb y 10) (eqb y 44) refl refl e
 
 -- The loop ------------------------------------------------------------------------------------------------------------------
 
@@ -238,69 +241,53 @@ module _ (s rest v : List ℕ) (len count : ℕ) (w : Sofar s len count v rest) 
         few = omega (arith, w.few, t.some_bytes);
       }
 
-  pub turn : (v' : List ℕ) (x n : ℕ) → field_at rest ≡ Field.Number x n → v' ≡ placed v count x → Sofar s (len + n) (count + 1) v' (take (length rest - n) (drop n rest))
-  turn v' x n e p = rw (p, part_from rest n) (more x n (stood rest x n e))
+  pub turn : (v' : List ℕ) (f : Number) → field_at rest ≡ Ok (Some f) → v' ≡ placed v count f.value → Sofar s (len + f.width) (count + 1) v' (take (length rest - f.width) (drop f.width rest))
+  turn v' f e p = rw (p, part_from rest f.width) (more f.value f.width (stood rest f e))
 
-  pub ends : field_at rest ≡ Field.End → NumbersRead s (record { ok = true; len = len + 1; count = count }) v
+  pub ends : field_at rest ≡ Ok None → NumbersRead s (Ok (record { len = len + 1; count = count })) v
   ends e =
       let (a, b) = at_end rest e in
       record {
-        good = λ _. record {
-          list = w.list;
-          are = w.are ∙ rw a (ap some (append-nil w.list));
-          count = w.counted;
-          kept = w.kept;
-          len = omega (arith, w.long, ap length b);
-        };
-        bad = λ t. absurd (true_false t);
+        list = w.list;
+        are = w.are ∙ rw a (ap some (append-nil w.list));
+        count = w.counted;
+        kept = w.kept;
+        len = omega (arith, w.long, ap length b);
       }
 
-  pub breaks : field_at rest ≡ Field.Broken → NumbersRead s (record { ok = false; len = 0; count = 0 }) v
-  breaks e =
-      record {
-        good = λ t. absurd (true_false (sym t));
-        bad = λ _. record { are = w.are ∙ ap (prepend w.list) (broken rest e); answer = refl; size = w.kept.size };
-      }
+  pub breaks : (r : Refusal) → field_at rest ≡ Err r → NumbersRead s (Err r) v
+  breaks r e =
+      let (a, form) = broken rest r e in
+      record { are = w.are ∙ ap (prepend w.list) a; answer = form; size = w.kept.size }
 
 -- The code's needs ----------------------------------------------------------------------------------------------------------
 
-pub field_none : (s : List ℕ) → length s ≡ 0 → Field.Broken ≡ field_at s
+-- the fields of empty bytes, and of bytes by the first
+pub field_none : (s : List ℕ) → length s ≡ 0 → Err Refusal.Form ≡ field_at s
 unfolding field_at
 field_none [] h = refl
 field_none (x ∷ s) h = absurd (omega arith)
 
+field_here : (s : List ℕ) → 0 < length s → field_at s ≡ picked (eqb (get_or s 0 0) 10) (eqb (get_or s 0 0) 44) (field_of (number_at (drop 1 s)))
+unfolding field_at
+field_here [] h = absurd (omega arith)
+field_here (x ∷ s) h = refl
+
 module _ (s : List ℕ) (h : 0 < length s) where
-  pub field_end : get_or s 0 0 ≡ 10 → Field.End ≡ field_at s
-  unfolding field_at
-  field_end e = go s h e
-    where
-      go : (s : List ℕ) → 0 < length s → get_or s 0 0 ≡ 10 → Field.End ≡ field_at s
-      go [] h e = absurd (omega arith)
-      go (x ∷ s) h e = rw (eq-eqb x 10 e)
+  pub field_end : get_or s 0 0 ≡ 10 → Ok None ≡ field_at s
+  field_end e = sym (field_here s h ∙ rw (eq-eqb (get_or s 0 0) 10 e))
 
-  pub field_comma : (n : Number) → (get_or s 0 0 ≡ 10 → ⊥) → get_or s 0 0 ≡ 44 → n ≡ number_at (take (length s - 1) (drop 1 s)) → field_of n ≡ field_at s
-  unfolding field_at
-  field_comma n k e p = go s h k e (p ∙ ap number_at (part_from s 1))
-    where
-      go : (s : List ℕ) → 0 < length s → (get_or s 0 0 ≡ 10 → ⊥) → get_or s 0 0 ≡ 44 → n ≡ number_at (drop 1 s) → field_of n ≡ field_at s
-      go [] h k e p = absurd (omega arith)
-      go (x ∷ s) h k e p = rw (p, ne_eqb x 10 k, eq-eqb x 44 e)
+  pub field_comma : get_or s 0 0 ≡ 44 → (r : Result Number Refusal) → r ≡ number_at (take (length s - 1) (drop 1 s)) → field_of r ≡ field_at s
+  field_comma e r f = sym (field_here s h ∙ rw (e, f ∙ ap number_at (part_from s 1)))
 
-  pub field_broken : (get_or s 0 0 ≡ 10 → ⊥) → (get_or s 0 0 ≡ 44 → ⊥) → Field.Broken ≡ field_at s
-  unfolding field_at
-  field_broken k e = go s h k e
-    where
-      go : (s : List ℕ) → 0 < length s → (get_or s 0 0 ≡ 10 → ⊥) → (get_or s 0 0 ≡ 44 → ⊥) → Field.Broken ≡ field_at s
-      go [] h k e = absurd (omega arith)
-      go (x ∷ s) h k e = rw (ne_eqb x 10 k, ne_eqb x 44 e)
+  pub field_broken : (get_or s 0 0 ≡ 10 → ⊥) → (get_or s 0 0 ≡ 44 → ⊥) → Err Refusal.Form ≡ field_at s
+  field_broken e f = sym (field_here s h ∙ rw (ne_eqb (get_or s 0 0) 10 e, ne_eqb (get_or s 0 0) 44 f))
 
-found_width : (o : Option ℕ) (w : ℕ) → width (found o w) ≤ w
-found_width none w = omega arith
-found_width (some v) w = le_refl w
+found_width : (o : Option ℕ) (w : ℕ) (f : Number) → Ok f ≡ found o w → f.width ≤ w
+found_width none w f e = absurd (cc)
+found_width (some v) w f e = let q : ◌≡◌ {A = Number} f (record { value = v; width = w }) = cc in omega (arith, ap (λ (x : Number). x.width) q)
 
 -- a number stands within the bytes
-pub width_from : (s : List ℕ) (n : Number) → n ≡ number_at (take (length s - 1) (drop 1 s)) → width n ≤ length s
+pub width_from : (s : List ℕ) (f : Number) → Ok f ≡ number_at s → f.width ≤ length s
 unfolding number_at
-width_from s n e =
-    rw (e ∙ ap number_at (part_from s 1))
-    (omega (arith, found_width (number (field (drop 1 s))) (length (field (drop 1 s))), (divided (drop 1 s)).fits, length-drop 1 s))
+width_from s f e = omega (arith, found_width (number (field s)) (length (field s)) f e, (divided s).fits)

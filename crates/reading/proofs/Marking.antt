@@ -3,98 +3,71 @@ use mathlib.Core.Path.{◌≡◌, refl, sym, ap, ◌∙◌, subst}
 use mathlib.Core.Logic.{◌⊎◌, inl, inr}
 use mathlib.Core.Bool.{Bool, true, false, ◌||◌, not}
 use mathlib.Core.List.{List, [], ◌∷◌, ◌++◌, append-nil}
-use Prim.Native.Nat.{ℕ, zero, suc, ◌+◌, ◌*◌, ◌-◌, ◌<◌, ◌≤◌}
-use native.Mathlib.Numerals.{add-one}
+use Prim.Native.Nat.{ℕ, zero, suc, ◌+◌, ◌-◌, ◌<◌, ◌≤◌}
 use native.Mathlib.Omega.{arith}
 use native.Mathlib.Decide.{ℕ_discrete}
-use lib.Dec.{eqb, leb}
+use lib.Dec.{leb}
 use lib.ListN.{length, get_or, take, drop}
-use lib.Seq.{take-nil, drop-drop}
-use borrow.Author.Tests.{leb-true, le-leb, lt-leb, eq-eqb, ne_eqb}
+use borrow.Author.Tests.{leb-true, le-leb, lt-leb}
 use Rattle.plan.specs.declared.aexpr.AExpr.{AExpr}
 use Rattle.plan.specs.Kinds.{same_aexpr}
 use Rattle.plan.specs.Lists.{all?, numbered, among, times, rest}
 use Rattle.plan.specs.Sheet.{Expr, expr_at, no_expr}
+use Rattle.plan.proofs.ListLaws.{part_from}
 use Rattle.plan.specs.Faults.{children_earlier, evaluated, field_right}
 use Rattle.storage.specs.Stored.{stored_expr, stored_exprs}
 use Rattle.storage.proofs.Laws.{length_table, table_at}
 use Rattle.reading.specs.Held.{children_of, ExprsHeld}
 use Rattle.reading.specs.Uses.{Counted}
 use Rattle.reading.specs.Marks.{marked_by, markings, field_marked}
-use Rattle.reading.proofs.Scans.{children_are, kind_of, expr_kind_is}
 use Rattle.reading.proofs.Names.{at_least}
 use Rattle.reading.proofs.Members.{In, not_in_none, in_left, in_right, in_either, times_in, in_times, same_tests, all_numbered_same, earlier, held, evaluation, downward, only}
 
 -- One line -------------------------------------------------------------------------------------------------------------------
 
-evaluates_is : (es : List ℕ) (i : ℕ) → same_aexpr (stored_expr es i).kind AExpr.StructEval ≡ eqb (get_or es (i * 16) 0) 15
-evaluates_is es i = ap (λ k. same_aexpr k AExpr.StructEval) (kind_of es i) ∙ expr_kind_is (get_or es (i * 16) 0) 15 (omega arith) (omega arith)
-
 pub few_children : {es : List ℕ} {n : ℕ} → ExprsHeld es n → (i : ℕ) → i < n → children_of es i ≤ 8
 few_children h i l = (h.formed i l).count
 
-rest_taken : (m : ℕ) (l : List ℕ) → rest (take (suc m) l) ≡ take m (drop 1 l)
-rest_taken m [] = sym (take-nil m)
-rest_taken m (x ∷ l) = refl
-
 module _ (es c names : List ℕ) (i : ℕ) (h : i < 256) (k : Counted c names) where
-  marked_is : leb 1 (get_or c i 0) ≡ leb 1 (times i names)
+  pub marked_is : leb 1 (get_or c i 0) ≡ leb 1 (times i names)
   marked_is = ap (leb 1) (k.each i h) ∙ at_least (times i names)
 
-  marked : (n : ℕ) → n ≡ children_of es i → 1 ≤ get_or c i 0 → take n (drop (i * 16 + 4) es) ≡ marked_by es names i
+  pub marks_children : {d l : List ℕ} → l ≡ (stored_expr es i).children → 1 ≤ get_or c i 0 → Counted d (names ++ l) → Counted d (names ++ marked_by es names i)
   unfolding marked_by
-  marked n e l = ap (λ m. take m (drop (i * 16 + 4) es)) e ∙ sym (children_are es i) ∙ sym (rw (marked_by, sym marked_is ∙ le-leb 1 (get_or c i 0) l))
+  marks_children e m n = rw (marked_by, sym marked_is ∙ le-leb 1 (get_or c i 0) m, ← e) n
 
-  module _ (l : get_or c i 0 < 1) where
-    other : (get_or es (i * 16) 0 ≡ 15 → ⊥) → [] ≡ marked_by es names i
+  module _ (m : get_or c i 0 < 1) where
+    pub marks_none : same_aexpr (stored_expr es i).kind AExpr.StructEval ≡ false → Counted c (names ++ marked_by es names i)
     unfolding marked_by
-    other e = sym (rw (marked_by, sym marked_is ∙ lt-leb 1 (get_or c i 0) l, evaluates_is es i, ne_eqb (get_or es (i * 16) 0) 15 e))
+    marks_none e = rw (marked_by, sym marked_is ∙ lt-leb 1 (get_or c i 0) m, e, append-nil names) k
 
-    evaluation_of : get_or es (i * 16) 0 ≡ 15 → rest (stored_expr es i).children ≡ marked_by es names i
+    pub marks_rest : {d l : List ℕ} → same_aexpr (stored_expr es i).kind AExpr.StructEval ≡ true → l ≡ rest (stored_expr es i).children → Counted d (names ++ l) → Counted d (names ++ marked_by es names i)
     unfolding marked_by
-    evaluation_of e = sym (rw (marked_by, sym marked_is ∙ lt-leb 1 (get_or c i 0) l, evaluates_is es i, eq-eqb (get_or es (i * 16) 0) 15 e))
+    marks_rest e f n = rw (marked_by, sym marked_is ∙ lt-leb 1 (get_or c i 0) m, e, ← f) n
 
-    none : (n : ℕ) → n ≡ children_of es i → get_or es (i * 16) 0 ≡ 15 → n ≡ 0 → [] ≡ marked_by es names i
-    none n f e z = sym (ap rest (children_are es i ∙ ap (λ m. take m (drop (i * 16 + 4) es)) (sym f ∙ z))) ∙ evaluation_of e
+pub no_rest : (l m : List ℕ) → l ≡ m → length l < 1 → [] ≡ rest m
+no_rest [] m e h = rw (← e)
+no_rest (x ∷ l) m e h = absurd (omega arith)
 
-    some : (n : ℕ) → n ≡ children_of es i → get_or es (i * 16) 0 ≡ 15 → (n ≡ 0 → ⊥) → take (n - 1) (drop (i * 16 + 5) es) ≡ marked_by es names i
-    some n f e z =
-        let s : n ≡ suc (n - 1) = omega arith in
-        let d : i * 16 + 4 + 1 ≡ i * 16 + 5 = omega arith in
-        sym (ap rest (children_are es i ∙ ap (λ m. take m (drop (i * 16 + 4) es)) (sym f ∙ s))
-        ∙ rest_taken (n - 1) (drop (i * 16 + 4) es) ∙ ap (take (n - 1)) (drop-drop 1 (i * 16 + 4) es ∙ ap (λ m. drop m es) d))
-        ∙ evaluation_of e
-
-module _ (es c : List ℕ) (i : ℕ) (h : i < 256) where
-  module _ (d : List ℕ) where
-    pub mark_children : (n : ℕ) → n ≡ children_of es i → 1 ≤ get_or c i 0 → ((names : List ℕ) → Counted c names → Counted d (names ++ take n (drop (i * 16 + 4) es)))
-        → (names : List ℕ) → Counted c names → Counted d (names ++ marked_by es names i)
-    mark_children n e l f names k = subst (λ m. Counted d (names ++ m)) (marked es c names i h k n e l) (f names k)
-
-    pub mark_evaluation : (n : ℕ) → n ≡ children_of es i → get_or c i 0 < 1 → get_or es (i * 16) 0 ≡ 15 → (n ≡ 0 → ⊥)
-        → ((names : List ℕ) → Counted c names → Counted d (names ++ take (n - 1) (drop (i * 16 + 5) es))) → (names : List ℕ) → Counted c names → Counted d (names ++ marked_by es names i)
-    mark_evaluation n e l g z f names k = subst (λ m. Counted d (names ++ m)) (some es c names i h k l n e g z) (f names k)
-
-  none_new : (names new : List ℕ) → Counted c names → [] ≡ new → Counted c (names ++ new)
-  none_new names new k e = subst (λ m. Counted c (names ++ m)) e (rw (append-nil names) k)
-
-  pub mark_other : get_or c i 0 < 1 → (get_or es (i * 16) 0 ≡ 15 → ⊥) → (names : List ℕ) → Counted c names → Counted c (names ++ marked_by es names i)
-  mark_other l e names k = none_new names _ k (other es c names i h k l e)
-
-  pub mark_none : (n : ℕ) → n ≡ children_of es i → get_or c i 0 < 1 → get_or es (i * 16) 0 ≡ 15 → n ≡ 0 → (names : List ℕ) → Counted c names → Counted c (names ++ marked_by es names i)
-  mark_none n f l e z names k = none_new names _ k (none es c names i h k l n f e z)
+pub rest_is : (l m : List ℕ) → l ≡ m → take (length l - 1) (drop 1 l) ≡ rest m
+rest_is l m e = part_from l 1 ∙ by l ∙ ap rest e
+  where
+    by : (l : List ℕ) → drop 1 l ≡ rest l
+    by [] = refl
+    by (x ∷ l) = refl
 
 -- All lines ------------------------------------------------------------------------------------------------------------------
 
-pub no_marks : (c es : List ℕ) (n : ℕ) → Counted c [] → Counted c (markings es n 0)
+pub no_marks : (c es : List ℕ) (n k : ℕ) → k ≡ 0 → Counted c [] → Counted c (markings es n k)
 unfolding markings
-no_marks c es n k = k
+no_marks c es n k e z = rw e z
 
-pub more_marks : (c d es : List ℕ) (n k : ℕ) → Counted c (markings es n k) → ((names : List ℕ) → Counted c names → Counted d (names ++ marked_by es names (n - (k + 1)))) → Counted d (markings es n (k + 1))
+pub more_marks : (c d es : List ℕ) (n j i : ℕ) → j + 1 ≡ i → i ≤ n → Counted c (markings es n (n - i)) → ((names : List ℕ) → Counted c names → Counted d (names ++ marked_by es names j)) → Counted d (markings es n (n - j))
 unfolding markings
-more_marks c d es n k h f =
-    subst (λ j. Counted d (markings es n j)) (sym (add-one k))
-    (subst (λ j. Counted d (markings es n k ++ marked_by es (markings es n k) (n - j))) (add-one k) (f (markings es n k) h))
+more_marks c d es n j i e h k f =
+    let s : n - j ≡ suc (n - i) = omega arith in
+    let g : n - suc (n - i) ≡ j = omega arith in
+    rw (s, markings, g) (f (markings es n (n - i)) k)
 
 module _ (es : List ℕ) (n : ℕ) where
   abbrev E : List Expr
@@ -169,9 +142,3 @@ module _ (es : List ℕ) (n : ℕ) where
     pub fields_are : {r : Bool} → r ≡ all? (field_marked (markings es n n)) (numbered 0 E) → r ≡ all? (field_right E) (numbered 0 E)
     unfolding field_right
     fields_are e = e ∙ all_numbered_same (field_marked (markings es n n)) (field_right E) 0 E (λ i h x. ap (λ b. not (same_aexpr x.kind AExpr.StructField) || b) (marks_are i))
-
--- a line's test
-pub field_is : (es c names : List ℕ) (i : ℕ) {r : Bool} → i < 256 → Counted c names → r ≡ (not (eqb (get_or es (i * 16) 0) 3) || leb 1 (get_or c i 0)) → r ≡ field_marked names (i, stored_expr es i)
-field_is es c names i h k e =
-    e ∙ ap (λ b. not (eqb (get_or es (i * 16) 0) 3) || b) (marked_is es c names i h k)
-    ∙ ap (λ b. not b || leb 1 (times i names)) (sym (ap (λ k. same_aexpr k AExpr.StructField) (kind_of es i) ∙ expr_kind_is (get_or es (i * 16) 0) 3 (omega arith) (omega arith)))

@@ -1,28 +1,29 @@
 -- Namings and their counts.
 use Rattle.std.specs.Prelude.{if◌then◌else◌}
 use mathlib.Core.Path.{◌≡◌, refl, sym, ap, ◌∙◌}
-use mathlib.Core.Bool.{Bool, true, false, ◌||◌, not}
+use mathlib.Core.Bool.{Bool, true, false}
 use mathlib.Core.List.{List, [], ◌∷◌, ◌++◌, map, append_assoc, append-nil}
-use Prim.Native.Nat.{ℕ, zero, suc, ◌+◌, ◌*◌, ◌<◌, ◌≤◌}
+use Prim.Native.Nat.{ℕ, zero, suc, ◌+◌, ◌<◌, ◌≤◌}
 use native.Mathlib.Numerals.{add-one}
 use native.Mathlib.Omega.{arith}
 use native.Mathlib.Decide.{ℕ_discrete}
 use lib.Dec.{eqb, leb}
-use lib.ListN.{length, get_or, take, drop, set, replicate, length-set, length-drop, get_or-replicate, length-replicate}
-use lib.Seq.{get_or-set_same, get_or-set_other, take-suc, get_or-drop}
+use lib.ListN.{length, get_or, take, set, replicate, length-set, get_or-replicate, length-replicate}
+use lib.Seq.{get_or-set_same, get_or-set_other, take-suc}
 use borrow.Author.Tests.{le-leb, lt-leb, eq-eqb, ne_eqb}
 use Rattle.plan.specs.declared.ir.IR.{IR}
+use Rattle.plan.specs.declared.refusal.Refusal.{Refusal}
+use Rattle.plan.specs.Refusals.{refusal_number}
 use Rattle.plan.specs.Kinds.{same_ir}
 use Rattle.plan.specs.Lists.{all?, select, sum, concat_map, numbered, times}
 use Rattle.plan.specs.Sheet.{Expr, Step}
-use Rattle.plan.specs.Faults.{exprs_named, named, cache_ids, named_right, use_number, id_right, use_fault, first_fault}
+use Rattle.plan.specs.Faults.{exprs_named, named, cache_ids, use_right, named_right, use_number, id_right, use_fault, first_fault}
 use Rattle.plan.proofs.FaultLaws.{over_both}
 use Rattle.storage.specs.Stored.{stored_expr, stored_step, stored_exprs, stored_steps, table}
 use Rattle.storage.proofs.Laws.{table_more}
 use Rattle.plan.proofs.ListLaws.{sum_append}
-use Rattle.reading.specs.Held.{children_of, count_of, both, sheet}
-use Rattle.reading.specs.Uses.{capped, Counted, all_children, all_both, id_of, used, uses_fault, exprs_fault, steps_fault, ids_once, expr_fault_in, step_fault_in, id_once_in}
-use Rattle.reading.proofs.Scans.{children_are, inputs_are, both_are, step_kind, step_a, step_kind_is}
+use Rattle.reading.specs.Held.{both, sheet}
+use Rattle.reading.specs.Uses.{capped, Counted, all_children, all_both, id_of, uses_fault, exprs_fault, steps_fault, ids_once, expr_fault_in, step_fault_in, id_once_in}
 
 -- Counts up to 2 -------------------------------------------------------------------------------------------------------------
 
@@ -111,8 +112,8 @@ pub open_names : {c d new : List ℕ} → ((names : List ℕ) → Counted c name
 unfolding Onward
 open_names f = f
 
-pub next_taken : (b : List ℕ) (at j : ℕ) → at + j < length b → take j (drop at b) ++ (get_or b (at + j) 0 ∷ []) ≡ take (j + 1) (drop at b)
-next_taken b at j h = rw (add-one j) (sym (take-suc (drop at b) j 0 (omega (arith, length-drop at b)) ∙ rw (get_or-drop at b j 0)))
+pub next_taken : (b : List ℕ) (j : ℕ) → j < length b → take j b ++ (get_or b j 0 ∷ []) ≡ take (j + 1) b
+next_taken b j h = rw (add-one j) (sym (take-suc b j 0 h))
 
 concat_append : {A : Type 0} (f : A → List ℕ) (l : List A) (x : A) → concat_map f (l ++ (x ∷ [])) ≡ concat_map f l ++ f x
 unfolding concat_map
@@ -122,19 +123,17 @@ concat_append f (y ∷ l) x = ap (λ m. f y ++ m) (concat_append f l x) ∙ sym 
 one_line : {A : Type 0} (f : A → List ℕ) (g : ℕ → A) (i : ℕ) → concat_map f (table g 0 i) ++ f (g i) ≡ concat_map f (table g 0 (i + 1))
 one_line f g i = sym (ap (λ k. concat_map f (table g 0 k)) (add-one i) ∙ ap (concat_map f) (table_more g 0 i ∙ ap (λ k. table g 0 i ++ (g k ∷ [])) (omega arith)) ∙ concat_append f (table g 0 i) (g i))
 
-pub more_children : (es : List ℕ) (i c : ℕ) → c ≡ children_of es i → all_children (stored_exprs es i) ++ take c (drop (i * 16 + 4) es) ≡ all_children (stored_exprs es (i + 1))
+pub more_children : (es : List ℕ) (i : ℕ) (l : List ℕ) → l ≡ (stored_expr es i).children → all_children (stored_exprs es i) ++ l ≡ all_children (stored_exprs es (i + 1))
 unfolding all_children stored_exprs
-more_children es i c e = ap (λ l. concat_map (λ (e : Expr). e.children) (table (stored_expr es) 0 i) ++ l) (ap (λ k. take k (drop (i * 16 + 4) es)) e ∙ sym (children_are es i)) ∙ one_line (λ (e : Expr). e.children) (stored_expr es) i
+more_children es i l e = rw e (one_line (λ (e : Expr). e.children) (stored_expr es) i)
 
-pub more_both : (ps : List ℕ) (i a b c : ℕ) → a ≡ count_of 4 ps i → b ≡ count_of 5 ps i → c ≡ count_of 6 ps i
-    → all_both (stored_steps ps i) ++ take (b + c) (drop (i * 32 + 7 + a) ps) ≡ all_both (stored_steps ps (i + 1))
+pub more_both : (ps : List ℕ) (i : ℕ) (l : List ℕ) → l ≡ both (stored_step ps i) → all_both (stored_steps ps i) ++ l ≡ all_both (stored_steps ps (i + 1))
 unfolding all_both stored_steps
-more_both ps i a b c e f g =
-    rw (e, f, g) (ap (λ l. concat_map both (table (stored_step ps) 0 i) ++ l) (sym (both_are ps i)) ∙ one_line both (stored_step ps) i)
+more_both ps i l e = rw e (one_line both (stored_step ps) i)
 
-pub more_inputs : (ps : List ℕ) (i a : ℕ) → a ≡ count_of 4 ps i → named (stored_steps ps i) ++ take a (drop (i * 32 + 7) ps) ≡ named (stored_steps ps (i + 1))
+pub more_inputs : (ps : List ℕ) (i : ℕ) (l : List ℕ) → l ≡ (stored_step ps i).inputs → named (stored_steps ps i) ++ l ≡ named (stored_steps ps (i + 1))
 unfolding named stored_steps
-more_inputs ps i a e = rw e (ap (λ l. concat_map (λ (s : Step). s.inputs) (table (stored_step ps) 0 i) ++ l) (sym (inputs_are ps i)) ∙ one_line (λ (s : Step). s.inputs) (stored_step ps) i)
+more_inputs ps i l e = rw e (one_line (λ (s : Step). s.inputs) (stored_step ps) i)
 
 -- the ids of Cache lines
 cache? : Step → Bool
@@ -154,23 +153,12 @@ ids_append (x ∷ l) s = by (cache? x) refl (ids_append l s)
     by true e h = rw (cache_ids, select, e) (ap (λ m. x.a ∷ m) h)
     by false e h = rw (cache_ids, select, e) h
 
-id_stored : (ps : List ℕ) (i : ℕ) → (if cache? (stored_step ps i) then (stored_step ps i).a ∷ [] else []) ≡ id_of (get_or ps (i * 32) 0) (get_or ps (i * 32 + 1) 0)
-unfolding cache?
-id_stored ps i = rw (step_kind ps i, step_kind_is (get_or ps (i * 32) 0) 18 (omega arith) (omega arith), step_a ps i)
-
-pub more_ids : (ps : List ℕ) (i : ℕ) → cache_ids (stored_steps ps i) ++ id_of (get_or ps (i * 32) 0) (get_or ps (i * 32 + 1) 0) ≡ cache_ids (stored_steps ps (i + 1))
-unfolding stored_steps
+pub more_ids : (ps : List ℕ) (i : ℕ) → cache_ids (stored_steps ps i) ++ id_of (stored_step ps i) ≡ cache_ids (stored_steps ps (i + 1))
+unfolding stored_steps cache?
 more_ids ps i =
     sym (ap (λ k. cache_ids (table (stored_step ps) 0 k)) (add-one i)
     ∙ ap cache_ids (table_more (stored_step ps) 0 i ∙ ap (λ k. table (stored_step ps) 0 i ++ (stored_step ps k ∷ [])) (omega arith))
-    ∙ ids_append (table (stored_step ps) 0 i) (stored_step ps i)
-    ∙ ap (λ l. cache_ids (table (stored_step ps) 0 i) ++ l) (id_stored ps i))
-
-pub id_counted : (k a : ℕ) → k ≡ 18 → a ∷ [] ≡ id_of k a
-id_counted k a e = rw (eq-eqb k 18 e)
-
-pub no_id : (k a : ℕ) → (k ≡ 18 → ⊥) → [] ≡ id_of k a
-no_id k a e = rw (ne_eqb k 18 e)
+    ∙ ids_append (table (stored_step ps) 0 i) (stored_step ps i))
 
 -- The tests ------------------------------------------------------------------------------------------------------------------
 
@@ -181,20 +169,9 @@ module _ (c names : List ℕ) (k : Counted c names) where
   pub expr_fault_is : (e : Expr) (i : ℕ) {r : ℕ} → i < 256 → r ≡ (if eqb (get_or c i 0) 1 then 0 else use_number (get_or c i 0)) → r ≡ expr_fault_in names (i, e)
   expr_fault_is e i h p = p ∙ rw (k.each i h, once (times i names), capped_number (times i names))
 
-  pub step_fault_is : (ps : List ℕ) (i : ℕ) {r : ℕ} → i < 256
-      → r ≡ (if used (get_or ps (i * 32) 0) (get_or c i 0) then 0 else use_number (get_or c i 0)) → r ≡ step_fault_in names (i, stored_step ps i)
-  step_fault_is ps i h p =
-      p ∙ rw (k.each i h, at_least (times i names), at_most (times i names), capped_number (times i names), step_kind ps i)
-      (sym (rw (step_kind_is (get_or ps (i * 32) 0) 2 (omega arith) (omega arith), step_kind_is (get_or ps (i * 32) 0) 18 (omega arith) (omega arith))))
-
-pub id_is : (ps names : List ℕ) (i : ℕ) {r : Bool} → r ≡ (not (eqb (get_or ps (i * 32) 0) 18) || eqb (times (get_or ps (i * 32 + 1) 0) names) 1) → r ≡ id_once_in names (i, stored_step ps i)
-id_is ps names i e = e ∙ sym (rw (step_kind ps i, step_kind_is (get_or ps (i * 32) 0) 18 (omega arith) (omega arith), step_a ps i))
-
-pub other_kind : (k : ℕ) (b : Bool) → (k ≡ 18 → ⊥) → true ≡ (not (eqb k 18) || b)
-other_kind k b e = rw (ne_eqb k 18 e)
-
-pub cache_kind : (k : ℕ) {a b : Bool} → k ≡ 18 → a ≡ b → a ≡ (not (eqb k 18) || b)
-cache_kind k e f = rw (eq-eqb k 18 e) f
+  pub step_fault_is : (s : Step) (i : ℕ) {r : ℕ} {kind : IR} → i < 256 → kind ≡ s.kind
+      → r ≡ (if use_right kind (get_or c i 0) then 0 else use_number (get_or c i 0)) → r ≡ step_fault_in names (i, s)
+  step_fault_is s i h e p = p ∙ rw (e, k.each i h, at_least (times i names), at_most (times i names), capped_number (times i names))
 
 module _ (es ps : List ℕ) (n m : ℕ) where
   pub exprs_counted : {r : ℕ} → r ≡ first_fault (map (expr_fault_in (all_children (stored_exprs es n) ++ all_both (stored_steps ps m))) (numbered 0 (stored_exprs es n)))
@@ -253,11 +230,18 @@ pub no_ids : (ps : List ℕ) → cache_ids (stored_steps ps 0) ≡ []
 unfolding cache_ids stored_steps table select
 no_ids ps = refl
 
-pub id_line : (k a : ℕ) (c d : List ℕ) → k ≡ 18 → ((names : List ℕ) → Counted c names → Counted d (names ++ (a ∷ []))) → (names : List ℕ) → Counted c names → Counted d (names ++ id_of k a)
-id_line k a c d e f names h = rw (← id_counted k a e) (f names h)
-
-pub other_line : (k a : ℕ) (c : List ℕ) → (k ≡ 18 → ⊥) → (names : List ℕ) → Counted c names → Counted c (names ++ id_of k a)
-other_line k a c e names h = rw (← no_id k a e) (no_more_names names h)
-  where
-    no_more_names : (names : List ℕ) → Counted c names → Counted c (names ++ [])
-    no_more_names names k = rw (append-nil names) k
+-- a refusal's number is not 0
+pub some_number : (e : Refusal) → refusal_number e ≡ 0 → ⊥
+some_number Refusal.ShortOutput z = omega arith
+some_number Refusal.LongSheet z = omega arith
+some_number Refusal.Form z = omega arith
+some_number Refusal.Table z = omega arith
+some_number Refusal.Limits z = omega arith
+some_number Refusal.NoPlan z = omega arith
+some_number Refusal.Reference z = omega arith
+some_number Refusal.Unused z = omega arith
+some_number Refusal.StructField z = omega arith
+some_number Refusal.JoinKeys z = omega arith
+some_number Refusal.SinkKeys z = omega arith
+some_number Refusal.UsedTwice z = omega arith
+some_number Refusal.CacheId z = omega arith

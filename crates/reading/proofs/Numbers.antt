@@ -1,6 +1,7 @@
 -- The number that the first four bytes tell is that of the first field.
-use Rattle.std.specs.Prelude.{if◌then◌else◌}
+use Rattle.std.specs.Prelude.{if◌then◌else◌, Result, Ok, Err}
 use mathlib.Core.Path.{◌≡◌, refl, sym, ap, ◌∙◌}
+use mathlib.Core.Logic.{◌⊎◌, inl, inr}
 use mathlib.Core.Bool.{Bool, true, false, ◌&&◌}
 use mathlib.Core.List.{List, [], ◌∷◌}
 use mathlib.Core.Option.{none, some}
@@ -11,9 +12,11 @@ use lib.Dec.{eqb, ltb, leb}
 use lib.ListN.{length, get_or, drop}
 use borrow.Author.Tests.{lt-ltb, le-ltb, le-leb, lt-leb, eq-eqb, ne_eqb}
 use Rattle.plan.specs.Sheet.{value, number, at_most}
-use Rattle.reading.specs.Number.{separator?, field, found, number_at, digit_of, digit_at}
+use Rattle.reading.specs.Number.{separator?, field, found, number_at, digit_of, digit_at, TwoDigits}
+use Rattle.plan.specs.declared.refusal.Refusal.{Refusal}
 use Rattle.reading.specs.declared.number.Number.{Number}
-use Rattle.reading.specs.declared.number.Number.TheVariants.{Value, Bad}
+use Rattle.reading.specs.declared.number.Byte.{Byte}
+use Rattle.reading.specs.declared.number.Byte.TheVariants.{Digit, End, Other}
 
 -- Digits of a value ----------------------------------------------------------------------------------------------------------
 
@@ -49,31 +52,33 @@ lost v h = rw (lt-leb v 255 h)
 
 -- What a byte is -------------------------------------------------------------------------------------------------------------
 
--- how the bytes begin, with d the digit there
-data Front : List ℕ → ℕ → Type 0 where
-  digit : {d : ℕ} {s : List ℕ} → d < 10 → separator? (48 + d) ≡ false → Front ((48 + d) ∷ s) d
-  end : Front [] 10
-  separated : {x : ℕ} {s : List ℕ} → separator? x ≡ true → Front (x ∷ s) 10
-  other : {x : ℕ} {s : List ℕ} → separator? x ≡ false → digit? x ≡ false → Front (x ∷ s) 11
+-- how the bytes begin, with b what the first of them is
+data Front : List ℕ → Byte → Type 0 where
+  digit : {d : ℕ} {s : List ℕ} → d < 10 → separator? (48 + d) ≡ false → Front ((48 + d) ∷ s) (Digit d)
+  end : Front [] End
+  separated : {x : ℕ} {s : List ℕ} → separator? x ≡ true → Front (x ∷ s) End
+  other : {x : ℕ} {s : List ℕ} → separator? x ≡ false → digit? x ≡ false → Front (x ∷ s) Other
 
 not_separator : (x : ℕ) → (x ≡ 44 → ⊥) → (x ≡ 10 → ⊥) → separator? x ≡ false
 not_separator x h k = simp (ne_eqb x 44 h, ne_eqb x 10 k)
 
-front_of : (x : ℕ) (s : List ℕ) → Dec (x ≡ 44) → Dec (x ≡ 10) → Dec (48 ≤ x) → Dec (x ≤ 57) → Front (x ∷ s) (digit_of x)
+digit_by : (x : ℕ) → digit_of x ≡ (if separator? x then End else if ltb x 48 then Other else if ltb 57 x then Other else Digit (x - 48))
 unfolding digit_of
-front_of x s (yes e) q m n = rw (digit_of, eq-eqb x 44 e) (separated {x = x} (rw (eq-eqb x 44 e)))
-front_of x s (no p) (yes e) m n = rw (digit_of, ne_eqb x 44 p, eq-eqb x 10 e) (separated {x = x} (simp (ne_eqb x 44 p, eq-eqb x 10 e)))
-front_of x s (no p) (no q) (no m) n = rw (digit_of, ne_eqb x 44 p, ne_eqb x 10 q, lt-ltb x 48 (omega arith)) (other {x = x} (not_separator x p q) (simp (lt-leb 48 x (omega arith))))
-front_of x s (no p) (no q) (yes m) (no n) = rw (digit_of, ne_eqb x 44 p, ne_eqb x 10 q, le-ltb x 48 m, lt-ltb 57 x (omega arith)) (other {x = x} (not_separator x p q) (simp (le-leb 48 x m, lt-leb x 57 (omega arith))))
-front_of x s (no p) (no q) (yes m) (yes n) =
-    rw (digit_of, ne_eqb x 44 p, ne_eqb x 10 q, le-ltb x 48 m, le-ltb 57 x n)
+digit_by x = refl
+
+front_of : (x : ℕ) (s : List ℕ) → (t : Bool) → separator? x ≡ t → Dec (48 ≤ x) → Dec (x ≤ 57) → Front (x ∷ s) (digit_of x)
+front_of x s true p m n = rw (digit_by x, p) (separated {x = x} p)
+front_of x s false p (no m) n = rw (digit_by x, p, lt-ltb x 48 (omega arith)) (other {x = x} p (simp (lt-leb 48 x (omega arith))))
+front_of x s false p (yes m) (no n) = rw (digit_by x, p, le-ltb x 48 m, lt-ltb 57 x (omega arith)) (other {x = x} p (simp (le-leb 48 x m, lt-leb x 57 (omega arith))))
+front_of x s false p (yes m) (yes n) =
+    rw (digit_by x, p, le-ltb x 48 m, le-ltb 57 x n)
     (let e : 48 + (x - 48) ≡ x = omega arith in
-    rw e at (digit {d = x - 48} {s = s} (omega arith) (not_separator (48 + (x - 48)) (λ k. p (sym e ∙ k)) (λ k. q (sym e ∙ k)))))
+    rw e at (digit {d = x - 48} {s = s} (omega arith) (rw e p)))
 
 front : (s : List ℕ) → Front s (digit_at s 0)
 unfolding digit_at
 front [] = end
-front (x ∷ s) = front_of x s (ℕ_discrete x 44) (ℕ_discrete x 10) (dec_le 48 x) (dec_le x 57)
+front (x ∷ s) = front_of x s (separator? x) refl (dec_le 48 x) (dec_le x 57)
 
 -- the fields of bytes that begin so
 field_digit : (s : List ℕ) (d : ℕ) → separator? (48 + d) ≡ false → field ((48 + d) ∷ s) ≡ (48 + d) ∷ field s
@@ -122,125 +127,97 @@ number_one : (a : ℕ) → a < 10 → number ((48 + a) ∷ []) ≡ some a
 unfolding number value
 number_one a h = value_digit 0 a [] h ∙ ap some (omega arith)
 
--- what the first four digits tell
-unfoldable number_of : ℕ → ℕ → ℕ → ℕ → Number
-number_of a b c d =
-    if leb 10 a then Bad
-    else if eqb b 10 then Value a 1
-    else if ltb 10 b then Bad
-    else if eqb a 0 then Bad
-    else if eqb c 10 then Value (a * 10 + b) 2
-    else if ltb 10 c then Bad
-    else if eqb d 10 then (if ltb 255 (a * 100 + b * 10 + c) then Bad else Value (a * 100 + b * 10 + c) 3)
-    else Bad
+-- what the first four bytes tell
+abbrev pub Told : Type 0
+Told = Result Number Refusal
 
--- The ways through number_of -------------------------------------------------------------------------------------------------
+abbrev pub bad : Told
+bad = Err Refusal.Form
 
-module _ (a b c d : ℕ) where
-  way_none : 10 ≤ a → number_of a b c d ≡ Bad
-  unfolding number_of
-  way_none h = simp (number_of, le-leb 10 a h)
+abbrev pub is : ℕ → ℕ → Told
+is v n = Ok (record { value = v; width = n })
 
-  module _ (h : a < 10) where
-    way_one : b ≡ 10 → number_of a b c d ≡ Value a 1
-    unfolding number_of
-    way_one k = simp (number_of, lt-leb 10 a h, eq-eqb b 10 k)
+abbrev pub three : ℕ → Byte → Told
+three v End = if ltb 255 v then bad else is v 3
+three v (Digit d) = bad
+three v Other = bad
 
-    way_second : 10 < b → number_of a b c d ≡ Bad
-    unfolding number_of
-    way_second k = simp (number_of, lt-leb 10 a h, ne_eqb b 10 (λ e. omega arith), lt-ltb 10 b k)
+abbrev pub two : ℕ → Byte → Byte → Told
+two v End d = is v 2
+two v (Digit c) d = three (v * 10 + c) d
+two v Other d = bad
 
-    module _ (k : b < 10) where
-      way_led : a ≡ 0 → number_of a b c d ≡ Bad
-      unfolding number_of
-      way_led z = simp (number_of, lt-leb 10 a h, ne_eqb b 10 (λ e. omega arith), le-ltb 10 b (omega arith), eq-eqb a 0 z)
+abbrev pub one : ℕ → Byte → Byte → Byte → Told
+one a End c d = is a 1
+one a (Digit b) c d = if eqb a 0 then bad else two (a * 10 + b) c d
+one a Other c d = bad
 
-      module _ (z : a ≡ 0 → ⊥) where
-        way_two : c ≡ 10 → number_of a b c d ≡ Value (a * 10 + b) 2
-        unfolding number_of
-        way_two l = simp (number_of, lt-leb 10 a h, ne_eqb b 10 (λ e. omega arith), le-ltb 10 b (omega arith), ne_eqb a 0 z, eq-eqb c 10 l)
-
-        way_third : 10 < c → number_of a b c d ≡ Bad
-        unfolding number_of
-        way_third l = simp (number_of, lt-leb 10 a h, ne_eqb b 10 (λ e. omega arith), le-ltb 10 b (omega arith), ne_eqb a 0 z, ne_eqb c 10 (λ e. omega arith), lt-ltb 10 c l)
-
-        module _ (l : c < 10) where
-          way_fourth : (d ≡ 10 → ⊥) → number_of a b c d ≡ Bad
-          unfolding number_of
-          way_fourth m = simp (number_of, lt-leb 10 a h, ne_eqb b 10 (λ e. omega arith), le-ltb 10 b (omega arith), ne_eqb a 0 z, ne_eqb c 10 (λ e. omega arith), le-ltb 10 c (omega arith), ne_eqb d 10 m)
-
-          way_over : d ≡ 10 → 255 < a * 100 + b * 10 + c → number_of a b c d ≡ Bad
-          unfolding number_of
-          way_over m n = simp (number_of, lt-leb 10 a h, ne_eqb b 10 (λ e. omega arith), le-ltb 10 b (omega arith), ne_eqb a 0 z, ne_eqb c 10 (λ e. omega arith), le-ltb 10 c (omega arith), eq-eqb d 10 m, lt-ltb 255 (a * 100 + b * 10 + c) n)
-
-          way_three : d ≡ 10 → a * 100 + b * 10 + c ≤ 255 → number_of a b c d ≡ Value (a * 100 + b * 10 + c) 3
-          unfolding number_of
-          way_three m n = simp (number_of, lt-leb 10 a h, ne_eqb b 10 (λ e. omega arith), le-ltb 10 b (omega arith), ne_eqb a 0 z, ne_eqb c 10 (λ e. omega arith), le-ltb 10 c (omega arith), eq-eqb d 10 m, le-ltb 255 (a * 100 + b * 10 + c) n)
+abbrev pub number_of : Byte → Byte → Byte → Byte → Told
+number_of (Digit a) b c d = one a b c d
+number_of End b c d = bad
+number_of Other b c d = bad
 
 -- The same of the first field ------------------------------------------------------------------------------------------------
 
-abbrev told : List ℕ → Number
+abbrev told : List ℕ → Told
 told l = found (number l) (length l)
 
 module _ (a b c : ℕ) (h : a < 10) (k : b < 10) (z : a ≡ 0 → ⊥) (l : c < 10) where
-  three_on : (m : List ℕ) → number ((48 + a) ∷ (48 + b) ∷ (48 + c) ∷ m) ≡ at_most 255 (value (a * 100 + b * 10 + c) m)
-  three_on m = number_two a b ((48 + c) ∷ m) h k z ∙ ap (at_most 255) (value_digit (a * 10 + b) c m l ∙ ap (λ v. value v m) (omega arith))
+  abbrev v : ℕ
+  v = (a * 10 + b) * 10 + c
 
-  three_end : Dec (a * 100 + b * 10 + c ≤ 255) → number_of a b c 10 ≡ told ((48 + a) ∷ (48 + b) ∷ (48 + c) ∷ [])
+  three_on : (m : List ℕ) → number ((48 + a) ∷ (48 + b) ∷ (48 + c) ∷ m) ≡ at_most 255 (value v m)
+  three_on m = number_two a b ((48 + c) ∷ m) h k z ∙ ap (at_most 255) (value_digit (a * 10 + b) c m l)
+
+  three_end : Dec (v ≤ 255) → three v End ≡ told ((48 + a) ∷ (48 + b) ∷ (48 + c) ∷ [])
   unfolding value
-  three_end (yes n) = way_three a b c 10 h k z l refl n ∙ sym (ap (λ o. found o 3) (three_on [] ∙ kept (a * 100 + b * 10 + c) n))
-  three_end (no n) = way_over a b c 10 h k z l refl (omega arith) ∙ sym (ap (λ o. found o 3) (three_on [] ∙ lost (a * 100 + b * 10 + c) (omega arith)))
+  three_end (yes n) = rw (le-ltb 255 v n) (sym (ap (λ o. found o 3) (three_on [] ∙ kept v n)))
+  three_end (no n) = rw (lt-ltb 255 v (omega arith)) (sym (ap (λ o. found o 3) (three_on [] ∙ lost v (omega arith))))
 
-  fourth : (s : List ℕ) (d : ℕ) → Front s d → number_of a b c d ≡ told ((48 + a) ∷ (48 + b) ∷ (48 + c) ∷ field s)
+  fourth : (s : List ℕ) (d : Byte) → Front s d → three v d ≡ told ((48 + a) ∷ (48 + b) ∷ (48 + c) ∷ field s)
   unfolding field
   fourth _ _ (digit {d = d} {s = s} m p) =
-      way_fourth a b c d h k z l (λ e. omega arith)
-      ∙ sym (rw (field_digit s d p) (ap (λ o. found o (length ((48 + a) ∷ (48 + b) ∷ (48 + c) ∷ (48 + d) ∷ field s))) (three_on ((48 + d) ∷ field s) ∙ ap (at_most 255) (value_digit (a * 100 + b * 10 + c) d (field s) m) ∙ over ((a * 100 + b * 10 + c) * 10 + d) (field s) (omega arith))))
-  fourth _ _ end = three_end (dec_le (a * 100 + b * 10 + c) 255)
-  fourth _ _ (separated {x = x} {s = s} p) = rw (field_end s x p) (three_end (dec_le (a * 100 + b * 10 + c) 255))
+      sym (rw (field_digit s d p) (ap (λ o. found o (length ((48 + a) ∷ (48 + b) ∷ (48 + c) ∷ (48 + d) ∷ field s))) (three_on ((48 + d) ∷ field s) ∙ ap (at_most 255) (value_digit v d (field s) m) ∙ over (v * 10 + d) (field s) (omega arith))))
+  fourth _ _ end = three_end (dec_le v 255)
+  fourth _ _ (separated {x = x} {s = s} p) = rw (field_end s x p) (three_end (dec_le v 255))
   fourth _ _ (other {x = x} {s = s} p q) =
-      way_fourth a b c 11 h k z l (λ e. omega arith)
-      ∙ sym (rw (field_other s x p) (ap (λ o. found o (length ((48 + a) ∷ (48 + b) ∷ (48 + c) ∷ x ∷ field s))) (three_on (x ∷ field s) ∙ ap (at_most 255) (value_other (a * 100 + b * 10 + c) x (field s) q))))
+      sym (rw (field_other s x p) (ap (λ o. found o (length ((48 + a) ∷ (48 + b) ∷ (48 + c) ∷ x ∷ field s))) (three_on (x ∷ field s) ∙ ap (at_most 255) (value_other v x (field s) q))))
 
-module _ (a b d : ℕ) (h : a < 10) (k : b < 10) (z : a ≡ 0 → ⊥) where
-  two_end : number_of a b 10 d ≡ told ((48 + a) ∷ (48 + b) ∷ [])
+module _ (a b : ℕ) (d : Byte) (h : a < 10) (k : b < 10) (z : a ≡ 0 → ⊥) where
+  two_end : is (a * 10 + b) 2 ≡ told ((48 + a) ∷ (48 + b) ∷ [])
   unfolding value
-  two_end = way_two a b 10 d h k z refl ∙ sym (ap (λ o. found o 2) (number_two a b [] h k z ∙ kept (a * 10 + b) (omega arith)))
+  two_end = sym (ap (λ o. found o 2) (number_two a b [] h k z ∙ kept (a * 10 + b) (omega arith)))
 
-  third : (s : List ℕ) (c : ℕ) → Front s c → Front (drop 1 s) d → number_of a b c d ≡ told ((48 + a) ∷ (48 + b) ∷ field s)
+  third : (s : List ℕ) (c : Byte) → Front s c → Front (drop 1 s) d → two (a * 10 + b) c d ≡ told ((48 + a) ∷ (48 + b) ∷ field s)
   unfolding field
   third _ _ (digit {d = c} {s = s} m p) f = fourth a b c h k z m s d f ∙ sym (ap (λ l. told ((48 + a) ∷ (48 + b) ∷ l)) (field_digit s c p))
   third _ _ end f = two_end
   third _ _ (separated {x = x} {s = s} p) f = rw (field_end s x p) two_end
   third _ _ (other {x = x} {s = s} p q) f =
-      way_third a b 11 d h k z (omega arith)
-      ∙ sym (rw (field_other s x p) (ap (λ o. found o (length ((48 + a) ∷ (48 + b) ∷ x ∷ field s))) (number_two a b (x ∷ field s) h k z ∙ ap (at_most 255) (value_other (a * 10 + b) x (field s) q))))
+      sym (rw (field_other s x p) (ap (λ o. found o (length ((48 + a) ∷ (48 + b) ∷ x ∷ field s))) (number_two a b (x ∷ field s) h k z ∙ ap (at_most 255) (value_other (a * 10 + b) x (field s) q))))
 
-module _ (a c d : ℕ) (h : a < 10) where
-  one_end : number_of a 10 c d ≡ told ((48 + a) ∷ [])
-  one_end = way_one a 10 c d h refl ∙ sym (ap (λ o. found o 1) (number_one a h))
+module _ (a : ℕ) (c d : Byte) (h : a < 10) where
+  one_end : is a 1 ≡ told ((48 + a) ∷ [])
+  one_end = sym (ap (λ o. found o 1) (number_one a h))
 
-  second_digit : (b : ℕ) (s : List ℕ) → b < 10 → Dec (a ≡ 0) → Front s c → Front (drop 1 s) d → number_of a b c d ≡ told ((48 + a) ∷ (48 + b) ∷ field s)
-  second_digit b s k (yes z) f g = way_led a b c d h k z ∙ sym (ap (λ n. told ((48 + n) ∷ (48 + b) ∷ field s)) z ∙ ap (λ o. found o (length (48 ∷ (48 + b) ∷ field s))) (number_led (48 + b) (field s)))
-  second_digit b s k (no z) f g = third a b d h k z s c f g
+  second_digit : (b : ℕ) (s : List ℕ) → b < 10 → Dec (a ≡ 0) → Front s c → Front (drop 1 s) d → one a (Digit b) c d ≡ told ((48 + a) ∷ (48 + b) ∷ field s)
+  second_digit b s k (yes z) f g = rw (eq-eqb a 0 z) (sym (ap (λ n. told ((48 + n) ∷ (48 + b) ∷ field s)) z ∙ ap (λ o. found o (length (48 ∷ (48 + b) ∷ field s))) (number_led (48 + b) (field s))))
+  second_digit b s k (no z) f g = rw (ne_eqb a 0 z) (third a b d h k z s c f g)
 
-  second : (s : List ℕ) (b : ℕ) → Front s b → Front (drop 1 s) c → Front (drop 2 s) d → number_of a b c d ≡ told ((48 + a) ∷ field s)
+  second : (s : List ℕ) (b : Byte) → Front s b → Front (drop 1 s) c → Front (drop 2 s) d → one a b c d ≡ told ((48 + a) ∷ field s)
   unfolding field
   second _ _ (digit {d = b} {s = s} m p) f g = second_digit b s m (ℕ_discrete a 0) f g ∙ sym (ap (λ l. told ((48 + a) ∷ l)) (field_digit s b p))
   second _ _ end f g = one_end
   second _ _ (separated {x = x} {s = s} p) f g = rw (field_end s x p) one_end
   second _ _ (other {x = x} {s = s} p q) f g =
-      way_second a 11 c d h (omega arith)
-      ∙ sym (rw (field_other s x p) (ap (λ o. found o (length ((48 + a) ∷ x ∷ field s))) (number_second a x (field s) h q)))
+      sym (rw (field_other s x p) (ap (λ o. found o (length ((48 + a) ∷ x ∷ field s))) (number_second a x (field s) h q)))
 
-first : (b c d : ℕ) (s : List ℕ) (a : ℕ) → Front s a → Front (drop 1 s) b → Front (drop 2 s) c → Front (drop 3 s) d → number_of a b c d ≡ told (field s)
+first : (b c d : Byte) (s : List ℕ) (a : Byte) → Front s a → Front (drop 1 s) b → Front (drop 2 s) c → Front (drop 3 s) d → number_of a b c d ≡ told (field s)
 unfolding field number
 first b c d _ _ (digit {d = a} {s = s} m p) e f g = second a c d m s b e f g ∙ sym (ap told (field_digit s a p))
-first b c d _ _ end e f g = way_none 10 b c d (omega arith)
-first b c d _ _ (separated {x = x} {s = s} p) e f g = rw (field_end s x p) (way_none 10 b c d (omega arith))
-first b c d _ _ (other {x = x} {s = s} p q) e f g =
-    way_none 11 b c d (omega arith)
-    ∙ sym (rw (field_other s x p) (ap (λ o. found o (length (x ∷ field s))) (number_other x (field s) q)))
+first b c d _ _ end e f g = refl
+first b c d _ _ (separated {x = x} {s = s} p) e f g = rw (field_end s x p) refl
+first b c d _ _ (other {x = x} {s = s} p q) e f g = sym (rw (field_other s x p) (ap (λ o. found o (length (x ∷ field s))) (number_other x (field s) q)))
 
 front_at : (s : List ℕ) (i : ℕ) → Front (drop i s) (digit_at s i)
 unfolding digit_at
@@ -254,58 +231,75 @@ numeral s = first (digit_at s 1) (digit_at s 2) (digit_at s 3) s (digit_at s 0) 
 
 -- The code's needs -----------------------------------------------------------------------------------------------------------
 
-pub byte_above : (x : ℕ) → 57 < x → 11 ≡ digit_of x
-unfolding digit_of
-byte_above x h = simp (digit_of, ne_eqb x 44 (λ e. omega arith), ne_eqb x 10 (λ e. omega arith), le-ltb x 48 (omega arith), lt-ltb 57 x h)
+pub byte_digit : (x : ℕ) → 48 ≤ x → x ≤ 57 → Digit (x - 48) ≡ digit_of x
+byte_digit x h k = sym (rw (digit_by x, ne_eqb x 44 (λ e. omega arith), ne_eqb x 10 (λ e. omega arith), le-ltb x 48 h, le-ltb 57 x k))
 
-pub byte_digit : (x : ℕ) → 48 ≤ x → x ≤ 57 → x - 48 ≡ digit_of x
-unfolding digit_of
-byte_digit x h k = simp (digit_of, ne_eqb x 44 (λ e. omega arith), ne_eqb x 10 (λ e. omega arith), le-ltb x 48 h, le-ltb 57 x k)
-
-pub digit_here : (s : List ℕ) (i r : ℕ) → i < length s → r ≡ digit_of (get_or s i 0) → r ≡ digit_at s i
+pub digit_here : (s : List ℕ) (i d : ℕ) {r : Byte} {x : ℕ} → i < length s → r ≡ digit_of x → x ≡ get_or s i d → r ≡ digit_at s i
 unfolding digit_at
-digit_here [] i r h e = absurd (omega arith)
-digit_here (x ∷ s) zero r h e = e
-digit_here (x ∷ s) (suc i) r h e = digit_here s i r (omega arith) e
+digit_here [] i d h e f = absurd (omega arith)
+digit_here (x ∷ s) zero d h e f = rw f at e
+digit_here (x ∷ s) (suc i) d h e f = digit_here s i d (omega arith) e f
 
-pub digit_past : (s : List ℕ) (i : ℕ) → length s ≤ i → 10 ≡ digit_at s i
+pub digit_past : (s : List ℕ) (i : ℕ) → length s ≤ i → End ≡ digit_at s i
 unfolding digit_at
 digit_past [] i h = refl
 digit_past (x ∷ s) zero h = absurd (omega arith)
 digit_past (x ∷ s) (suc i) h = digit_past s i (omega arith)
 
--- the number, by as many digits as it takes to tell
-module _ (s : List ℕ) (a : ℕ) (ea : a ≡ digit_at s 0) where
-  told_by : (b c d : ℕ) → b ≡ digit_at s 1 → c ≡ digit_at s 2 → d ≡ digit_at s 3 → number_of a b c d ≡ number_at s
-  told_by b c d eb ec ed = rw (ea, eb, ec, ed) (numeral s)
+-- a digit is below 10
+digit_front : (s : List ℕ) (b : Byte) (d : ℕ) → Front s b → b ≡ Digit d → d < 10
+digit_front _ _ d (digit {d = n} m p) e = let f : n ≡ d = cc in omega arith
+digit_front _ _ d end e = absurd (cc)
+digit_front _ _ d (separated p) e = absurd (cc)
+digit_front _ _ d (other p q) e = absurd (cc)
 
-  pub no_first : 10 ≤ a → Bad ≡ number_at s
-  no_first h = sym (way_none a _ _ _ h) ∙ told_by _ _ _ refl refl refl
+pub digit_small : (s : List ℕ) (i d : ℕ) → Digit d ≡ digit_at s i → d < 10
+digit_small s i d e = digit_front (drop i s) (digit_at s i) d (front_at s i) (sym e)
 
-  module _ (b : ℕ) (eb : b ≡ digit_at s 1) (h : a < 10) where
-    pub one_digit : b ≡ 10 → Value a 1 ≡ number_at s
-    one_digit k = sym (way_one a b _ _ h k) ∙ told_by b _ _ eb refl refl
+-- the number, by the bytes that tell it
+pub told_by : (s : List ℕ) (a b c d : Byte) → a ≡ digit_at s 0 → b ≡ digit_at s 1 → c ≡ digit_at s 2 → d ≡ digit_at s 3 → number_of a b c d ≡ number_at s
+told_by s a b c d e f g h = rw (e, f, g, h) (numeral s)
 
-    pub no_second : 10 < b → Bad ≡ number_at s
-    no_second k = sym (way_second a b _ _ h k) ∙ told_by b _ _ eb refl refl
+pub no_digit : (s : List ℕ) (a : Byte) → a ≡ digit_at s 0 → ((d : ℕ) → a ≡ Digit d → ⊥) → bad ≡ number_at s
+no_digit s (Digit a) e n = absurd (n a refl)
+no_digit s End e n = told_by s End _ _ _ e refl refl refl
+no_digit s Other e n = told_by s Other _ _ _ e refl refl refl
 
-    pub leading_zero : b < 10 → a ≡ 0 → Bad ≡ number_at s
-    leading_zero k z = sym (way_led a b _ _ h k z) ∙ told_by b _ _ eb refl refl
+module _ (s : List ℕ) (a b : ℕ) (e : Digit a ≡ digit_at s 0) (f : Digit b ≡ digit_at s 1) where
+  past_one : (c d : Byte) → c ≡ digit_at s 2 → d ≡ digit_at s 3 → one a (Digit b) c d ≡ number_at s
+  past_one c d g h = told_by s (Digit a) (Digit b) c d e f g h
 
-    module _ (k : b < 10) (z : 0 < a) (c : ℕ) (ec : c ≡ digit_at s 2) where
-      pub two_digits : c ≡ 10 → Value (a * 10 + b) 2 ≡ number_at s
-      two_digits l = sym (way_two a b c _ h k (λ e. omega arith) l) ∙ told_by b c _ eb ec refl
+  pub leading_zero : a ≡ 0 → bad ≡ number_at s
+  leading_zero z = rw (eq-eqb a 0 z) at (past_one _ _ refl refl)
 
-      pub no_third : 10 < c → Bad ≡ number_at s
-      no_third l = sym (way_third a b c _ h k (λ e. omega arith) l) ∙ told_by b c _ eb ec refl
+module _ (s : List ℕ) (a b : ℕ) (t : TwoDigits s a b) where
+  pub past_two : (c d : Byte) → c ≡ digit_at s 2 → d ≡ digit_at s 3 → two (a * 10 + b) c d ≡ number_at s
+  past_two c d g h = rw (ne_eqb a 0 (λ z. let p = t.not_zero in omega arith)) at (past_one s a b t.first t.second c d g h)
 
-      module _ (l : c < 10) (d : ℕ) (ed : d ≡ digit_at s 3) where
-        pub too_long : (d ≡ 10 → ⊥) → Bad ≡ number_at s
-        too_long m = sym (way_fourth a b c d h k (λ e. omega arith) l m) ∙ told_by b c d eb ec ed
+  module _ (c : ℕ) (g : Digit c ≡ digit_at s 2) where
+    pub too_long : (d : Byte) → d ≡ digit_at s 3 → (d ≡ End → ⊥) → bad ≡ number_at s
+    too_long (Digit d) h n = past_two (Digit c) (Digit d) g h
+    too_long End h n = absurd (n refl)
+    too_long Other h n = past_two (Digit c) Other g h
 
-        pub too_large : d ≡ 10 → 255 < a * 100 + b * 10 + c → Bad ≡ number_at s
-        too_large m o = sym (way_over a b c d h k (λ e. omega arith) l m o) ∙ told_by b c d eb ec ed
+    module _ (h : End ≡ digit_at s 3) (n : ℕ) (m : n ≡ (a * 10 + b) * 10 + c) where
+      pub too_large : (n < 256 → ⊥) → bad ≡ number_at s
+      too_large l = rw (lt-ltb 255 ((a * 10 + b) * 10 + c) (by (dec_le 256 n))) at (past_two (Digit c) End g h)
+        where
+          by : Dec (256 ≤ n) → 255 < (a * 10 + b) * 10 + c
+          by (yes k) = omega arith
+          by (no k) = absurd (l (omega arith))
 
-        pub three_digits : (n : ℕ) → d ≡ 10 → n ≡ a * 100 + b * 10 + c → n ≤ 255 → Value n 3 ≡ number_at s
-        three_digits n m e o =
-            ap (λ v. Value v 3) e ∙ sym (way_three a b c d h k (λ e. omega arith) l m (rw e at o)) ∙ told_by b c d eb ec ed
+      pub three_digits : (v : ℕ) → n < 256 → v ≡ n → is v 3 ≡ number_at s
+      three_digits v l w = rw (w ∙ m) (rw (le-ltb 255 ((a * 10 + b) * 10 + c) (omega arith)) at (past_two (Digit c) End g h))
+
+pub other_byte : (x : ℕ) → ((x ≡ 10) ⊎ (x ≡ 44) → ⊥) → (48 ≤ x → x ≤ 57 → ⊥) → Other ≡ digit_of x
+other_byte x h l = sym (rw (digit_by x, ne_eqb x 44 (λ e. h (inr e)), ne_eqb x 10 (λ e. h (inl e))) (by (dec_le 48 x)))
+  where
+    by : Dec (48 ≤ x) → (if ltb x 48 then Other else if ltb 57 x then Other else Digit (x - 48)) ≡ Other
+    by (no m) = rw (lt-ltb x 48 (omega arith))
+    by (yes m) = rw (le-ltb x 48 m, lt-ltb 57 x (let n = l m in omega arith))
+
+pub end_byte : (x : ℕ) → (x ≡ 10) ⊎ (x ≡ 44) → End ≡ digit_of x
+end_byte x (inl e) = sym (rw (digit_by x, e))
+end_byte x (inr e) = sym (rw (digit_by x, e))

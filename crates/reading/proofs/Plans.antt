@@ -1,4 +1,5 @@
 -- The plan of a sheet.
+use Rattle.std.specs.Prelude.{Result, Ok, Err}
 use mathlib.Core.Path.{◌≡◌, refl, sym, ap, ◌∙◌, subst}
 use mathlib.Core.Bool.{Bool, true, false, not}
 use mathlib.Core.List.{List}
@@ -7,6 +8,8 @@ use native.Mathlib.Omega.{arith}
 use lib.ListN.{length}
 use lib.Dec.{eqb}
 use borrow.Author.Tests.{lt-ltb, le-ltb, eq-eqb, ne_eqb}
+use Rattle.plan.specs.declared.refusal.Refusal.{Refusal}
+use Rattle.plan.specs.Refusals.{refusal_number}
 use Rattle.plan.specs.Lists.{all?, numbered}
 use Rattle.plan.specs.Sheet.{Sheet, Outcome, refused, done, ◌then◌, refuse◌when◌else◌, read, read_lines, parts, no_lines, no_plan}
 use Rattle.plan.specs.Faults.{lines, references_right, field_right, checked}
@@ -14,12 +17,10 @@ use Rattle.plan.proofs.Checked.{checked_is}
 use Rattle.storage.specs.Stored.{stored_expr, stored_step, stored_exprs, stored_steps, StepsHeld}
 use Rattle.storage.proofs.Laws.{length_table}
 use Rattle.reading.specs.Held.{ExprsHeld, sheet}
-use Rattle.reading.specs.Lines.{Sound, AllTaken, LinesRead}
+use Rattle.reading.specs.Lines.{Sound}
 use Rattle.reading.specs.Plan.{plan_of, checked_plan, PlanIs}
 use Rattle.reading.specs.declared.lines.LineCounts.{LineCounts}
-use Rattle.reading.specs.declared.lines.Lines.{Lines}
-use Rattle.reading.specs.declared.PlanRead.{PlanRead}
-use Rattle.reading.specs.declared.PlanRead.TheVariants.{Taken, Refused}
+use Rattle.reading.specs.declared.Counts.{Counts}
 use Rattle.reading.specs.Uses.{uses_fault, ids_once}
 use Rattle.reading.proofs.Checks.{no_steps, some_steps}
 
@@ -80,17 +81,17 @@ module _ (es ps : List ℕ) (n m : ℕ) where
   unfolding stored_steps
   steps_length = length_table (stored_step ps) 0 m
 
-  pub taken : (o : Outcome Sheet) → o ≡ done sh → PlanIs o es ps (Taken (record { exprs = n; steps = m }))
+  pub taken : (o : Outcome Sheet) → o ≡ done sh → PlanIs o es ps (Ok (record { exprs = n; steps = m }))
   taken o e =
-      subst (λ x. PlanIs x es ps (Taken (record { exprs = n; steps = m }))) (sym e)
+      subst (λ x. PlanIs x es ps (Ok (record { exprs = n; steps = m }))) (sym e)
       (record {
         answer = rw (exprs_length, steps_length);
         exprs = ap (stored_exprs es) exprs_length;
         steps = ap (stored_steps ps) steps_length;
       })
 
-pub refuses : (o : Outcome Sheet) (es ps : List ℕ) (k : ℕ) → o ≡ refused k → PlanIs o es ps (Refused k)
-refuses o es ps k e = subst (λ x. PlanIs x es ps (Refused k)) (sym e) refl
+pub refuses : (o : Outcome Sheet) (es ps : List ℕ) (e : Refusal) → o ≡ refused (refusal_number e) → PlanIs o es ps (Err e)
+refuses o es ps e h = subst (λ x. PlanIs x es ps (Err e)) (sym h) refl
 
 -- The whole sheet ------------------------------------------------------------------------------------------------------------
 
@@ -118,11 +119,5 @@ held_exprs s = record { few = (let h = s.few_exprs in omega arith); formed = s.e
 pub held_steps : {es ps : List ℕ} {t : LineCounts} → Sound es ps t → length ps ≡ 1024 → StepsHeld ps t.steps
 held_steps s size = record { few = s.few_steps; size = size; formed = s.steps }
 
-pub refused_is : (s es ps : List ℕ) (r : Lines) (k : ℕ) → LinesRead s es ps r → r ≡ Lines.Refused k → read_lines (parts 10 s) no_lines ≡ refused k
-refused_is s es ps r k l e = subst (λ x. LinesRead s es ps x) e l
-
-pub read_is : (s es ps : List ℕ) (r : Lines) (t : LineCounts) → LinesRead s es ps r → r ≡ Lines.Read t → AllTaken s es ps t
-read_is s es ps r t l e = subst (λ x. LinesRead s es ps x) e l
-
-pub same_plan : (o o' : Outcome Sheet) (es ps : List ℕ) (r : PlanRead) → o ≡ o' → PlanIs o' es ps r → PlanIs o es ps r
+pub same_plan : (o o' : Outcome Sheet) (es ps : List ℕ) (r : Result Counts Refusal) → o ≡ o' → PlanIs o' es ps r → PlanIs o es ps r
 same_plan o o' es ps r e l = subst (λ x. PlanIs x es ps r) (sym e) l

@@ -1,19 +1,20 @@
--- Loops that test each entry of a list in turn.
-use mathlib.Core.Path.{◌≡◌, sym, ap, ◌∙◌}
-use mathlib.Core.Bool.{Bool, true, false, ◌&&◌}
+-- Tests of each entry of a list in turn, and the lists of stored lines.
+use mathlib.Core.Path.{◌≡◌, refl, sym, ap, ◌∙◌}
+use mathlib.Core.Bool.{Bool, ◌&&◌}
 use mathlib.Core.List.{List, [], ◌∷◌, ◌++◌, map}
-use Prim.Native.Nat.{ℕ, suc, ◌+◌, ◌*◌, ◌-◌, ◌<◌, ◌≤◌}
+use Prim.Native.Nat.{ℕ, zero, suc, ◌+◌, ◌*◌, ◌-◌, ◌<◌, ◌≤◌}
 use native.Mathlib.Numerals.{add-one}
 use native.Mathlib.Omega.{arith}
 use lib.Dec.{eqb}
-use lib.ListN.{length, get_or, take, drop, get_or-eq_default}
-use lib.Seq.{drop-cons, drop-drop, get_or-take, get_or-drop, take-add}
+use lib.ListN.{get_or, take, drop, get_or-eq_default}
+use lib.Seq.{drop-drop, get_or-take, get_or-drop, take-add}
 use native.Mathlib.Decide.{dec_le}
 use borrow.Author.Tests.{ne_eqb}
 use Rattle.plan.specs.declared.aexpr.AExpr.{AExpr}
 use Rattle.plan.specs.declared.ir.IR.{IR}
 use Rattle.plan.specs.Kinds.{aexprs, aexpr, aexpr_number, irs, ir, ir_number}
 use Rattle.plan.proofs.KindNumbers.{aexpr_there, ir_there}
+use Rattle.std.specs.List.{list_all, range_with_len}
 use Rattle.plan.specs.Lists.{all?, numbered}
 use Rattle.plan.specs.Sheet.{expr_of, step_of}
 use Rattle.plan.specs.Faults.{first_fault}
@@ -22,77 +23,27 @@ use Rattle.plan.proofs.ListLaws.{drop_take}
 use Rattle.plan.proofs.FaultLaws.{first_given}
 use Rattle.reading.specs.Held.{children_of, count_of, both}
 
+-- Tests of each entry ---------------------------------------------------------------------------------------------------------
+
+pub all_is : {A : Type 0} (f : A → Bool) (l : List A) → list_all f l ≡ all? f l
+unfolding all?
+all_is f [] = refl
+all_is f (x ∷ l) = ap (λ b. f x && b) (all_is f l)
+
+-- lines by their indices, and the same with them
+pub lines_are : {A : Type 0} (p : ℕ → Bool) (f : ℕ × A → Bool) (g : ℕ → A) (k n : ℕ) → ((i : ℕ) → i < k + n → p i ≡ f (i, g i))
+    → list_all p (range_with_len k n) ≡ all? f (numbered k (table g k n))
+unfolding all? numbered table
+lines_are p f g k zero h = refl
+lines_are p f g k (suc n) h =
+    rw (h k (omega arith))
+    (ap (λ b. f (k, g k) && b) (ap (λ i. list_all p (range_with_len i n)) (add-one k) ∙ lines_are p f g (suc k) n (λ i l. h i (omega arith))))
+
 -- a count that goes down as an index goes up
 left : (i n : ℕ) → i < n → n - i ≡ suc (n - (i + 1))
 left i n h = omega arith
 
--- Numbers that stand in bytes ------------------------------------------------------------------------------------------------
-
--- the numbers from j on, of n from at on
-unfoldable pub numbers_from : List ℕ → ℕ → ℕ → ℕ → List ℕ
-numbers_from b at n j = take (n - j) (drop (at + j) b)
-
-pub next_number : (b : List ℕ) (at n j : ℕ) → j < n → at + n ≤ length b → numbers_from b at n j ≡ get_or b (at + j) 0 ∷ numbers_from b at n (j + 1)
-unfolding numbers_from
-next_number b at n j h k =
-    let e : suc (at + j) ≡ at + (j + 1) = omega arith in
-    rw (left j n h, drop-cons b (at + j) 0 (omega arith), e)
-
-pub none_left : (b : List ℕ) (at n j : ℕ) → n ≤ j → numbers_from b at n j ≡ []
-unfolding numbers_from
-none_left b at n j h = let e : n - j ≡ 0 = omega arith in rw e
-
-pub all_left : (b : List ℕ) (at n : ℕ) → take n (drop at b) ≡ numbers_from b at n 0
-unfolding numbers_from
-all_left b at n = let e : at + 0 ≡ at = omega arith in let f : n - 0 ≡ n = omega arith in rw (e, f)
-
-and-true : (a b : Bool) → a ≡ true → (a && b) ≡ b
-and-true a b e = rw e
-
-and-false : (a b : Bool) → a ≡ false → (a && b) ≡ false
-and-false a b e = rw e
-
-module _ (f : ℕ → Bool) (b : List ℕ) (at n j : ℕ) (h : j < n) (k : at + n ≤ length b) {w : Bool} (i : w ≡ all? f (numbers_from b at n j)) where
-  all_next : w ≡ (f (get_or b (at + j) 0) && all? f (numbers_from b at n (j + 1)))
-  unfolding all?
-  all_next = i ∙ ap (all? f) (next_number b at n j h k)
-
-  pub number_fails : f (get_or b (at + j) 0) ≡ false → false ≡ w
-  number_fails e = sym (all_next ∙ and-false _ _ e)
-
-  pub number_passes : f (get_or b (at + j) 0) ≡ true → w ≡ all? f (numbers_from b at n (j + 1))
-  number_passes e = all_next ∙ and-true _ _ e
-
-pub numbers_pass : (f : ℕ → Bool) (b : List ℕ) (at n j : ℕ) {w : Bool} → n ≤ j → w ≡ all? f (numbers_from b at n j) → true ≡ w
-unfolding all?
-numbers_pass f b at n j h i = sym (i ∙ ap (all? f) (none_left b at n j h))
-
--- Lines, with their indices --------------------------------------------------------------------------------------------------
-
-module _ {A : Type 0} (f : ℕ × A → Bool) (g : ℕ → A) (n : ℕ) where
-  -- the lines from i on
-  unfoldable pub lines_from : ℕ → Bool
-  lines_from i = all? f (numbered i (table g i (n - i)))
-
-  line_next : (i : ℕ) → i < n → lines_from i ≡ (f (i, g i) && lines_from (i + 1))
-  unfolding all? numbered table lines_from
-  line_next i h = rw (left i n h, add-one i)
-
-  pub line_fails : (i : ℕ) {w : Bool} → i < n → f (i, g i) ≡ false → w ≡ lines_from i → false ≡ w
-  line_fails i h e p = sym (p ∙ line_next i h ∙ and-false _ _ e)
-
-  pub line_passes : (i : ℕ) {w : Bool} → i < n → f (i, g i) ≡ true → w ≡ lines_from i → w ≡ lines_from (i + 1)
-  line_passes i h e p = p ∙ line_next i h ∙ and-true _ _ e
-
-  pub lines_pass : (i : ℕ) {w : Bool} → n ≤ i → w ≡ lines_from i → true ≡ w
-  unfolding all? numbered table lines_from
-  lines_pass i h p = let e : n - i ≡ 0 = omega arith in sym (p ∙ rw e)
-
-  pub from_first : all? f (numbered 0 (table g 0 n)) ≡ lines_from 0
-  unfolding lines_from
-  from_first = let e : n - 0 ≡ n = omega arith in rw e
-
--- the same of lines that have a number each: the first that is not 0
+-- lines that have a number each: the first that is not 0
 module _ {A : Type 0} (f : ℕ × A → ℕ) (g : ℕ → A) (n : ℕ) where
   unfoldable pub faults_from : ℕ → ℕ
   faults_from i = first_fault (map f (numbered i (table g i (n - i))))

@@ -11,23 +11,14 @@ use Rattle.storage.proofs.Laws.{table_more, same_table}
 use Rattle.storage.proofs.Changes.{step_take}
 use Rattle.reading.specs.Lines.{pasted}
 use Rattle.reading.specs.Held.{children_of, count_of}
+use borrow.Rule.Slice.PartMut.{put_mid}
 use lib.ListN.{length, get_or, take, drop, set, length-set, length-drop, take-append-drop, get_or-append}
-use lib.Seq.{paste-zero, paste-suc, length-paste, take-append-le, drop-append-le, drop_at, take-take, get_or-take, get_or-drop, length-take-le, take-set-le, get_or-set_same, get_or-set_other}
+use lib.Seq.{drop-drop, take-append-le, drop-append-le, drop_at, take-take, get_or-take, get_or-drop, length-take-le, take-set-le, get_or-set_same, get_or-set_other}
 
--- The loop that writes them --------------------------------------------------------------------------------------------------
-
-pub put_none : (d : List ℕ) (at : ℕ) (v : List ℕ) → d ≡ pasted d at v 0
+-- a part of d that was overwritten
+pub overwritten : (d : List ℕ) (at n m : ℕ) (w v : List ℕ) → m ≡ n → w ≡ take n v → put_mid at m d w ≡ pasted d at v n
 unfolding pasted
-put_none d at v = paste-zero d at v
-
-pub put_turn : (d e : List ℕ) (at : ℕ) (v : List ℕ) (j : ℕ) {n : ℕ} → e ≡ pasted d at v j → at + j < length d → j < length v → j + 1 ≤ n
-    → (j + 1 ≤ n) × ((set e (at + j) (get_or v j 0) ≡ pasted d at v (j + 1)) × (length (set e (at + j) (get_or v j 0)) ≡ length d))
-unfolding pasted
-put_turn d e at v j p h k l =
-    (l, (rw (p, add-one j) (paste-suc d at v j 0 h k), length-set e (at + j) (get_or v j 0) ∙ ap length p ∙ length-paste d at v j (omega arith) (omega arith)))
-
-pub put_done : (d e : List ℕ) (at : ℕ) (v : List ℕ) (j n : ℕ) → e ≡ pasted d at v j → j ≡ n → e ≡ pasted d at v n
-put_done d e at v j n p q = p ∙ rw q
+overwritten d at n m w v e f = rw (e, f) (ap (λ r. take at d ++ (take n v ++ r)) (drop-drop n at d) ∙ sym (append_assoc (take at d) (take n v) (drop (at + n) d)))
 
 -- What is read afterwards ----------------------------------------------------------------------------------------------------
 

@@ -1,5 +1,5 @@
 -- From one line at the front of the bytes to all lines.
-use Rattle.std.specs.Prelude.{if◌then◌else◌}
+use Rattle.std.specs.Prelude.{if◌then◌else◌, Result}
 use mathlib.Core.Path.{◌≡◌, refl, sym, ap, ◌∙◌, subst}
 use mathlib.Core.Bool.{Bool, true, false, and-false}
 use mathlib.Core.List.{List, [], ◌∷◌}
@@ -10,15 +10,15 @@ use native.Mathlib.Nat.{not-suc-le-zero}
 use lib.Dec.{eqb}
 use lib.ListN.{length, get_or, take, drop}
 use borrow.Author.Tests.{ne_eqb}
+use Rattle.plan.specs.declared.refusal.Refusal.{Refusal}
 use Rattle.plan.specs.Lists.{empty?, same, sum}
-use Rattle.plan.specs.Sheet.{Sheet, Line, refused, done, ◌then◌, parts, onto, numbers, lettered, line_of, read_line, read_lines, no_lines}
+use Rattle.plan.specs.Sheet.{Sheet, refused, done, ◌then◌, parts, onto, numbers, lettered, line_of, read_line, read_lines, no_lines}
 use Rattle.storage.specs.Stored.{stored_exprs, stored_steps, table}
 use Rattle.plan.proofs.ListLaws.{part_from}
 use Rattle.reading.specs.Line.{line, ended, line_here, numbers_after, numbers_of}
 use Rattle.reading.specs.Lines.{sheet_of, agg_entries, Sound, LineTaken, LineRead, AllTaken}
 use Rattle.reading.specs.declared.lines.LineCounts.{LineCounts}
 use Rattle.reading.specs.declared.lines.Reading.{Reading}
-use Rattle.reading.specs.declared.lines.Reading.TheVariants.{Taken, Refused}
 
 -- The letter -----------------------------------------------------------------------------------------------------------------
 
@@ -82,7 +82,7 @@ no_line x m e f = by (ended (x ∷ m)) (eqb x 10) refl
     by true true g = rw (line, g) empty_line
     by true false g = rw (line, g) (other_by x (line m) (eqb x 44) refl e f)
 
-module _ (s es ps es' ps' : List ℕ) (t : LineCounts) (r : Reading) (h : 0 < length s) where
+module _ (s es ps es' ps' : List ℕ) (t : LineCounts) (r : Result Reading Refusal) (h : 0 < length s) where
   cut : (x : ℕ) → get_or s 0 0 ≡ x → s ≡ x ∷ take (length s - 1) (drop 1 s)
   cut x e = rw (part_from s 1) (split s h e)
     where
@@ -95,6 +95,11 @@ module _ (s es ps es' ps' : List ℕ) (t : LineCounts) (r : Reading) (h : 0 < le
   lettered_read x a b e l =
       subst (λ z. LineRead (line_here z) z es ps es' ps' t r) (sym (cut x e))
       (subst (λ o. LineRead o (x ∷ take (length s - 1) (drop 1 s)) es ps es' ps' t r) (sym (behind x (take (length s - 1) (drop 1 s)) a b)) l)
+
+pub no_bytes : (s : List ℕ) (sh : Sheet) → length s < 1 → read_line (line_here s) sh ≡ refused 3
+unfolding read_line line_here ended
+no_bytes [] sh h = refl
+no_bytes (x ∷ m) sh h = absurd (omega arith)
 
 pub unlettered : (s : List ℕ) (sh : Sheet) → 0 < length s → (get_or s 0 0 ≡ 69 → ⊥) → (get_or s 0 0 ≡ 80 → ⊥) → read_line (line_here s) sh ≡ refused 3
 unfolding read_line
@@ -115,12 +120,12 @@ first_by x s false e ih h = rw (parts, line, e) (ap (onto x) (ih (sym (rw (ended
 
 first : (s : List ℕ) → ended s ≡ true → parts 10 s ≡ line s ∷ parts 10 (after s)
 unfolding ended
-first [] h = let z : ◌≡◌ {A = ℕ} 0 1 = cc in absurd (omega arith)
+first [] h = absurd (cc)
 first (x ∷ s) h = first_by x s (eqb x 10) refl (first s) h
 
 only_by : (x : ℕ) (s : List ℕ) (b : Bool) → eqb x 10 ≡ b → (ended s ≡ false → parts 10 s ≡ s ∷ []) → ended (x ∷ s) ≡ false → parts 10 (x ∷ s) ≡ (x ∷ s) ∷ []
 unfolding parts ended
-only_by x s true e ih h = let g : true ≡ false = sym (rw (ended, e)) ∙ h in let z : ◌≡◌ {A = ℕ} 0 1 = cc in absurd (omega arith)
+only_by x s true e ih h = let g : true ≡ false = sym (rw (ended, e)) ∙ h in absurd (cc)
 only_by x s false e ih h = rw (parts, e) (ap (onto x) (ih (sym (rw (ended, e)) ∙ h)))
 
 only : (s : List ℕ) → ended s ≡ false → parts 10 s ≡ s ∷ []
@@ -143,7 +148,7 @@ parts_there (x ∷ s) = by (eqb x 10) refl
 
 lines_then : (l : List ℕ) (ls : List (List ℕ)) (sh : Sheet) → empty? ls ≡ false → read_lines (l ∷ ls) sh ≡ (read_line (line_of l) sh then λ sh'. read_lines ls sh')
 unfolding read_lines
-lines_then l [] sh h = let z : ◌≡◌ {A = ℕ} 0 1 = cc in absurd (omega arith)
+lines_then l [] sh h = absurd (cc)
 lines_then l (l' ∷ ls) sh h = refl
 
 -- one line, and then the others
@@ -181,7 +186,7 @@ shorter_by x s false e ih h = let z = ih (sym (rw (ended, e)) ∙ h) in rw (line
 
 shorter : (s : List ℕ) → ended s ≡ true → length (line s) < length s
 unfolding ended
-shorter [] h = let z : ◌≡◌ {A = ℕ} 0 1 = cc in absurd (omega arith)
+shorter [] h = absurd (cc)
 shorter (x ∷ s) h = shorter_by x s (eqb x 10) refl (shorter s) h
 
 -- the rest of the bytes, read into what was read of s, comes to the same as s
@@ -224,10 +229,3 @@ refuses s rest es ps t k a h e = a.same_end ∙ refused_here rest (sheet_of es p
 
 pub all_read : (s rest es ps : List ℕ) (t : LineCounts) → Along s rest es ps t → length rest ≡ 0 → AllTaken s es ps t
 all_read s rest es ps t a h = record { taken = a.same_end ∙ none_left rest (sheet_of es ps t) h; sound = a.sound }
-
--- a line's answer, once it is known which
-pub taken_is : (o : Option Line) (s es ps es' ps' : List ℕ) (t : LineCounts) (r : Reading) (t' : LineCounts) (n : ℕ) → LineRead o s es ps es' ps' t r → r ≡ Taken t' n → LineTaken o s es ps es' ps' t t' n
-taken_is o s es ps es' ps' t r t' n l e = subst (λ x. LineRead o s es ps es' ps' t x) e l
-
-pub refused_is : (o : Option Line) (s es ps es' ps' : List ℕ) (t : LineCounts) (r : Reading) (k : ℕ) → LineRead o s es ps es' ps' t r → r ≡ Refused k → read_line o (sheet_of es ps t) ≡ refused k
-refused_is o s es ps es' ps' t r k l e = subst (λ x. LineRead o s es ps es' ps' t x) e l

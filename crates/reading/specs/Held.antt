@@ -1,7 +1,9 @@
 -- What holds of the bytes of stored lines: their numbers fit.
-use Rattle.std.specs.Prelude.{ℕ, ◌+◌, ◌*◌, ◌<◌, ◌≤◌, List, ◌++◌, Bool, ◌&&◌, not, eqb, ltb, length, get_or}
+use Rattle.std.specs.Prelude.{ℕ, ◌+◌, ◌*◌, ◌<◌, ◌≤◌, List, ◌++◌, Bool, ◌&&◌, not, ltb, get_or}
+use Rattle.plan.specs.declared.ir.IR.{IR}
+use Rattle.plan.specs.Kinds.{same_ir}
 use Rattle.plan.specs.Sheet.{Step, Sheet}
-use Rattle.storage.specs.Stored.{stored_exprs, stored_steps, ExprFormed, StepFormed}
+use Rattle.storage.specs.Stored.{stored_step, stored_exprs, stored_steps, ExprFormed, StepFormed}
 
 -- the counts in the bytes of an E line and of a P line
 abbrev pub children_of : List ℕ → ℕ → ℕ
@@ -26,12 +28,6 @@ sheet es n ps m = record { exprs = stored_exprs es n; steps = stored_steps ps m 
 abbrev pub both : Step → List ℕ
 both s = s.exprs ++ s.aggs
 
--- n inputs of line i, from byte `at` on, can be read, and so can the lines before it
-pub record InputsReadable (ps : List ℕ) (at n i : ℕ) : Type 0 where
-  pub room : at + n ≤ length ps
-  pub few : i ≤ 32
-  pub size : 1024 ≤ length ps
-
 -- an input that stands before line i and is no Sink
 abbrev pub before_no_sink : List ℕ → ℕ → ℕ → Bool
-before_no_sink ps i m = ltb m i && not (eqb (get_or ps (m * 32) 0) 2)
+before_no_sink ps i m = ltb m i && not (same_ir (stored_step ps m).kind IR.Sink)

@@ -1,5 +1,6 @@
 pub mod Number
 pub mod Line
+pub mod Field
 pub mod Tables
 pub mod Held
 pub mod Lines

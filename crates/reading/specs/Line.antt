@@ -1,11 +1,8 @@
 -- A line as the code meets it: at the front of the bytes that are left.
-use Rattle.std.specs.Prelude.{◌≡◌, ℕ, suc, ◌+◌, ◌<◌, Bool, true, false, List, [], ◌∷◌, eqb, ltb, get_or, length, set, if◌then◌else◌}
+use Rattle.std.specs.Prelude.{◌≡◌, ℕ, suc, ◌<◌, Bool, true, false, List, [], ◌∷◌, eqb, ltb, get_or, length, set, if◌then◌else◌, Result, Ok, Err}
 use Rattle.std.proofs.Math.Option.{Option, none, some}
 use Rattle.plan.specs.Sheet.{parts, numbers, Line, line_of}
-use Rattle.reading.specs.Number.{number_at}
-use Rattle.reading.specs.declared.number.Number.{Number}
-use Rattle.reading.specs.declared.number.Number.TheVariants.{Value, Bad}
-use Rattle.reading.specs.declared.line.Field.{Field}
+use Rattle.plan.specs.declared.refusal.Refusal.{Refusal}
 use Rattle.reading.specs.declared.line.Numbers.{Numbers}
 
 -- the bytes up to the next byte 10, or all of them
@@ -32,15 +29,6 @@ numbers_after (x ∷ xs) = if eqb x 44 then numbers (parts 44 xs) else none
 unfoldable pub numbers_of : List ℕ → Option (List ℕ)
 numbers_of s = if ended s then numbers_after (line s) else none
 
-abbrev pub field_of : Number → Field
-field_of (Value v n) = Field.Number v (n + 1)
-field_of Bad = Field.Broken
-
--- what stands at the front
-unfoldable pub field_at : List ℕ → Field
-field_at [] = Field.Broken
-field_at (x ∷ xs) = if eqb x 10 then Field.End else if eqb x 44 then field_of (number_at xs) else Field.Broken
-
 -- bytes with a number at a place, if it is among the first 31
 abbrev pub placed : List ℕ → ℕ → ℕ → List ℕ
 placed v at x = if ltb at 31 then set v at x else v
@@ -58,13 +46,13 @@ pub record AllRead (s : List ℕ) (r : Numbers) (v : List ℕ) : Type 0 where
   pub kept : Kept list v
   pub len : r.len ≡ suc (length (line s))
 
--- the line is broken: no length and no count are given. Which numbers v holds, is left free; it has its length
-pub record NoneRead (s : List ℕ) (r : Numbers) (v : List ℕ) : Type 0 where
+-- the line is broken. Which numbers v holds, is left free; it has its length
+pub record NoneRead (s : List ℕ) (e : Refusal) (v : List ℕ) : Type 0 where
   pub are : numbers_of s ≡ none
-  pub answer : r ≡ record { ok = false; len = 0; count = 0 }
+  pub answer : e ≡ Refusal.Form
   pub size : length v ≡ 32
 
 -- the answer for the bytes s, with the numbers in v
-pub record NumbersRead (s : List ℕ) (r : Numbers) (v : List ℕ) : Type 0 where
-  pub good : r.ok ≡ true → AllRead s r v
-  pub bad : r.ok ≡ false → NoneRead s r v
+abbrev pub NumbersRead : List ℕ → Result Numbers Refusal → List ℕ → Type 0
+NumbersRead s (Ok r) v = AllRead s r v
+NumbersRead s (Err e) v = NoneRead s e v

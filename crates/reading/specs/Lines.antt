@@ -1,8 +1,10 @@
 -- The lines as the code stores them.
-use Rattle.std.specs.Prelude.{◌≡◌, ℕ, suc, ◌+◌, ◌<◌, ◌≤◌, true, List, eqb, length, if◌then◌else◌}
+use Rattle.std.specs.Prelude.{◌≡◌, ℕ, suc, ◌+◌, ◌<◌, ◌≤◌, true, List, eqb, length, if◌then◌else◌, Result, Ok, Err}
 use Rattle.std.proofs.Math.Option.{Option}
 use Rattle.std.proofs.Math.Seq.{paste}
 use Rattle.plan.specs.declared.ir.IR.{IR}
+use Rattle.plan.specs.declared.refusal.Refusal.{Refusal}
+use Rattle.plan.specs.Refusals.{refusal_number}
 use Rattle.plan.specs.Kinds.{same_ir}
 use Rattle.plan.specs.Lists.{sum}
 use Rattle.plan.specs.Sheet.{Sheet, Step, Line, refused, done, read_line, parts, read_lines, no_lines}
@@ -10,8 +12,6 @@ use Rattle.storage.specs.Stored.{stored_exprs, stored_steps, ExprFormed, StepFor
 use Rattle.reading.specs.Line.{line, ended}
 use Rattle.reading.specs.declared.lines.LineCounts.{LineCounts}
 use Rattle.reading.specs.declared.lines.Reading.{Reading}
-use Rattle.reading.specs.declared.lines.Lines.{Lines}
-use Rattle.reading.specs.declared.lines.Reading.TheVariants.{Taken, Refused}
 
 -- d, with the n bytes from at on replaced by the first n of v
 unfoldable pub pasted : List ℕ → ℕ → List ℕ → ℕ → List ℕ
@@ -43,15 +43,15 @@ pub record LineTaken (o : Option Line) (s es ps es' ps' : List ℕ) (t t' : Line
   pub whole : ended s ≡ true
   pub long : n ≡ suc (length (line s))
 
-abbrev pub LineRead : Option Line → List ℕ → List ℕ → List ℕ → List ℕ → List ℕ → LineCounts → Reading → Type 0
-LineRead o s es ps es' ps' t (Refused k) = read_line o (sheet_of es ps t) ≡ refused k
-LineRead o s es ps es' ps' t (Taken t' n) = LineTaken o s es ps es' ps' t t' n
+abbrev pub LineRead : Option Line → List ℕ → List ℕ → List ℕ → List ℕ → List ℕ → LineCounts → Result Reading Refusal → Type 0
+LineRead o s es ps es' ps' t (Err e) = read_line o (sheet_of es ps t) ≡ refused (refusal_number e)
+LineRead o s es ps es' ps' t (Ok r) = LineTaken o s es ps es' ps' t r.counts r.len
 
 -- all lines of s were read
 pub record AllTaken (s es ps : List ℕ) (t : LineCounts) : Type 0 where
   pub taken : read_lines (parts 10 s) no_lines ≡ done (sheet_of es ps t)
   pub sound : Sound es ps t
 
-abbrev pub LinesRead : List ℕ → List ℕ → List ℕ → Lines → Type 0
-LinesRead s es ps (Lines.Refused k) = read_lines (parts 10 s) no_lines ≡ refused k
-LinesRead s es ps (Lines.Read t) = AllTaken s es ps t
+abbrev pub LinesRead : List ℕ → List ℕ → List ℕ → Result LineCounts Refusal → Type 0
+LinesRead s es ps (Err e) = read_lines (parts 10 s) no_lines ≡ refused (refusal_number e)
+LinesRead s es ps (Ok t) = AllTaken s es ps t

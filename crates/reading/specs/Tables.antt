@@ -1,5 +1,5 @@
 -- The tables of the definition, by a line's numbers.
-use Rattle.std.specs.Prelude.{ℕ, ◌+◌, ◌≤◌, Bool, ◌&&◌, ◌||◌, not, eqb, ltb, leb, get_or}
+use Rattle.std.specs.Prelude.{ℕ, ◌+◌, ◌≤◌, Bool, ◌&&◌, ◌||◌, not, eqb, ltb, leb, get_or, List}
 use Rattle.plan.specs.Lists.{yes?}
 use Rattle.plan.specs.Sheet.{expr_table, step_table}
 use Rattle.reading.specs.declared.tables.Row.{Row}
@@ -61,3 +61,11 @@ pub record FewEntries (n1 n2 n3 : ℕ) : Type 0 where
   pub inputs : n1 ≤ 8
   pub exprs : n2 ≤ 8
   pub aggs : n3 ≤ 8
+
+-- the same of a line's numbers where they stand, with the count of its children and of all of them
+abbrev pub expr_line_fits : List ℕ → ℕ → Bool
+expr_line_fits v n = expr_numbers_fit (get_or v 0 0) (get_or v 1 0) (get_or v 2 0) (get_or v 3 0) n
+
+abbrev pub step_line_fits : List ℕ → ℕ → Bool
+step_line_fits v n =
+    step_numbers_fit (get_or v 0 0) (get_or v 1 0) (get_or v 2 0) (get_or v 3 0) (get_or v 4 0) (get_or v 5 0) (get_or v 6 0) n

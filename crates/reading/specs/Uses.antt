@@ -1,5 +1,5 @@
 -- Namings, counted up to 2.
-use Rattle.std.specs.Prelude.{◌≡◌, ℕ, zero, suc, ◌<◌, Bool, ◌&&◌, ◌||◌, not, List, [], ◌∷◌, ◌++◌, map, eqb, leb, get_or, length, if◌then◌else◌}
+use Rattle.std.specs.Prelude.{◌≡◌, ℕ, zero, suc, ◌<◌, Bool, ◌||◌, not, List, [], ◌∷◌, ◌++◌, map, eqb, get_or, length, if◌then◌else◌}
 use Rattle.plan.specs.declared.ir.IR.{IR}
 use Rattle.plan.specs.Kinds.{same_ir}
 use Rattle.plan.specs.Lists.{all?, concat_map, numbered, times}
@@ -22,8 +22,9 @@ all_children es = concat_map (λ (e : Expr). e.children) es
 unfoldable pub all_both : List Step → List ℕ
 all_both ss = concat_map (λ (s : Step). s.exprs ++ s.aggs) ss
 
-abbrev pub id_of : ℕ → ℕ → List ℕ
-id_of kind a = if eqb kind 18 then a ∷ [] else []
+-- the id of a Cache
+abbrev pub id_of : Step → List ℕ
+id_of s = if same_ir s.kind IR.Cache then s.a ∷ [] else []
 
 -- The pass behind 8 and 12 ------------------------------------------------------------------------------------------------
 
@@ -43,10 +44,6 @@ exprs_fault sh = first_fault (map (expr_fault_in (exprs_named sh)) (numbered 0 s
 
 unfoldable pub steps_fault : List Step → ℕ
 steps_fault ss = first_fault (map (step_fault_in (named ss)) (numbered 0 ss))
-
--- a P line's use, its kind given by number
-abbrev pub used : ℕ → ℕ → Bool
-used kind count = eqb kind 2 || (leb 1 count && (eqb kind 18 || leb count 1))
 
 -- 13 ----------------------------------------------------------------------------------------------------------------------
 

@@ -1,52 +1,31 @@
 // The numbers of a line: each behind a comma, up to byte 10.
-ghost use Rattle.std.specs.Prelude.{◌≡◌, ◌+◌, ◌<◌, ◌^◌, length};
-ghost use Rattle.reading.specs.Number.{width};
-ghost use Rattle.reading.specs.Line.{field_of, field_at, placed, NumbersRead};
+ghost use Rattle.std.specs.Prelude.{◌≡◌, length};
+ghost use Rattle.reading.specs.Field.{field_at};
+ghost use Rattle.reading.specs.Line.{placed, NumbersRead};
 
-use crate::number::Number;
-
-// What stands at the front of the bytes.
-#[derive(Clone, Copy)]
-pub enum Field {
-    // A comma and a number: its value, and how many bytes both take.
-    Number(u8, usize),
-    // Byte 10.
-    End,
-    Broken,
-}
+use crate::number::{Number, read_number};
+use plan::refusal::Refusal;
 
 // How many numbers a line has, and the length of all of them with byte 10.
 #[derive(Clone, Copy)]
 pub struct Numbers {
-    pub ok: bool,
     pub len: usize,
     pub count: usize,
 }
 
-pub fn field_of(n: Number) -> Field
-    requires { width n + 1 < 2 ^ 64 }
-    ensures { result ≡ field_of n }
-{
-    match n {
-        Number::Value(v, w) => Field::Number(v, w + 1),
-        Number::Bad => Field::Broken,
-    }
-}
-
-pub fn read_field(s: &[u8]) -> Field
+// What stands at the front of the bytes: a comma and a number, whose width is that of both, or byte 10, which is none.
+pub fn read_field(s: &[u8]) -> Result<Option<Number>, Refusal>
     ensures { result ≡ field_at s.now }
 {
-    if s.len() == 0 {
-        return Field::Broken;
+    match s {
+        [b'\n', ..] => Ok(None),
+        [b',', rest @ ..] => {
+            let Number { value, width } = read_number(rest)?;
+            let width = width + 1;
+            Ok(Some(Number { value, width }))
+        }
+        _ => Err(Refusal::Form),
     }
-    let b = s[0];
-    if b == 10 {
-        return Field::End;
-    }
-    if b == 44 {
-        return field_of(crate::number::read_number(&s[1..]));
-    }
-    Field::Broken
 }
 
 // The at-th number of a line: all are counted, the first 31 kept. No line within the tables has more.
@@ -59,35 +38,19 @@ fn keep(v: &mut [u8; 32], at: usize, x: u8)
 }
 
 // The numbers that follow a line's letter. They are stored as they are met: a struct that held them would be copied for each.
-pub fn read_numbers(s: &[u8], v: &mut [u8; 32]) -> Numbers
+pub fn read_numbers(s: &[u8], v: &mut [u8; 32]) -> Result<Numbers, Refusal>
     requires { length v.old ≡ 32 }
     ensures { NumbersRead s.now result v.new }
 {
     let mut len: usize = 0;
     let mut count: usize = 0;
     let mut rest = s;
-    loop {
-        match read_field(rest) {
-            Field::Number(x, n) => {
-                keep(v, count, x);
-                len += n;
-                count += 1;
-                rest = &rest[n..];
-            }
-            Field::End => {
-                return Numbers {
-                    ok: true,
-                    len: len + 1,
-                    count,
-                };
-            }
-            Field::Broken => {
-                return Numbers {
-                    ok: false,
-                    len: 0,
-                    count: 0,
-                };
-            }
-        }
+    while let Some(number) = read_field(rest)? {
+        keep(v, count, number.value);
+        len += number.width;
+        count += 1;
+        rest = &rest[number.width..];
     }
+    let len = len + 1;
+    Ok(Numbers { len, count })
 }

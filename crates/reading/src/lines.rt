@@ -4,6 +4,11 @@ ghost use Rattle.plan.specs.Sheet.{lettered};
 ghost use Rattle.reading.specs.Line.{numbers_of, line_here};
 ghost use Rattle.reading.specs.Lines.{pasted, aggs_of, Sound, LineRead, LinesRead};
 
+use crate::line::read_numbers;
+use crate::tables::{expr_fits, step_fits};
+use plan::ir::IR;
+use plan::refusal::Refusal;
+
 // How many E lines, agg entries and P lines were taken.
 #[derive(Clone, Copy)]
 pub struct LineCounts {
@@ -12,24 +17,11 @@ pub struct LineCounts {
     pub steps: usize,
 }
 
-// What a line comes to.
+// A line that was taken: the counts with it, and its length.
 #[derive(Clone, Copy)]
-pub enum Reading {
-    // The counts with it, and its length.
-    Taken(LineCounts, usize),
-    Refused(u8),
-}
-
-// n bytes of v, from the place `at` on.
-fn put(out: &mut [u8], at: usize, v: [u8; 32], n: usize)
-    requires { (at + n ≤ length out.old) × (n ≤ 32) }
-    ensures { out.new ≡ pasted out.old at v n }
-{
-    let mut j: usize = 0;
-    while j < n {
-        out[at + j] = v[j];
-        j += 1;
-    }
+pub struct Reading {
+    pub counts: LineCounts,
+    pub len: usize,
 }
 
 // The numbers of the i-th E line, with the count of its children.
@@ -39,7 +31,7 @@ fn store_expr(exprs: &mut [u8; 2048], i: usize, v: [u8; 32], count: u8)
 {
     let mut w = v;
     w[12] = count;
-    put(exprs, i * 16, w, 16);
+    exprs[i * 16..i * 16 + 16].copy_from_slice(&w[..16]);
 }
 
 // The numbers of the i-th P line.
@@ -47,106 +39,95 @@ fn store_step(steps: &mut [u8; 1024], i: usize, v: [u8; 32])
     requires { i < 32 }
     ensures { (steps.new ≡ pasted steps.old (i * 32) v 32) × (length steps.old ≡ 1024) }
 {
-    put(steps, i * 32, v, 32);
+    steps[i * 32..i * 32 + 32].copy_from_slice(&v);
 }
 
 fn agg_entries(kind: u8, n3: u8) -> usize
     ensures { (result ≡ aggs_of kind n3) × (result < 256) }
 {
-    if kind == 7 {
-        return n3 as usize;
+    if kind == u8::from(IR::GroupBy) {
+        return usize::from(n3);
     }
     0
 }
 
 // What follows an E line's letter. No E line comes after a P line.
-fn read_expr(s: &[u8], exprs: &mut [u8; 2048], t: LineCounts) -> Reading
+fn read_expr(s: &[u8], exprs: &mut [u8; 2048], t: LineCounts) -> Result<Reading, Refusal>
     ensures { (ps : List ℕ) → Sound exprs.old ps t → LineRead (lettered (69 ∷ []) (numbers_of s.now)) (69 ∷ s.now) exprs.old ps exprs.new ps t result }
 {
     let mut v = [0u8; 32];
-    let f = crate::line::read_numbers(s, &mut v);
-    if !f.ok {
-        return Reading::Refused(3);
-    }
-    if f.count < 4 {
-        return Reading::Refused(3);
-    }
-    if t.steps != 0 {
-        return Reading::Refused(3);
+    let f = read_numbers(s, &mut v)?;
+    if f.count < 4 || t.steps != 0 {
+        return Err(Refusal::Form);
     }
     let count = f.count - 4;
-    if !crate::tables::expr_fits(v[0], v[1], v[2], v[3], count) {
-        return Reading::Refused(4);
+    if !expr_fits(&v, count) {
+        return Err(Refusal::Table);
     }
     if 128 <= t.exprs {
-        return Reading::Refused(5);
+        return Err(Refusal::Limits);
     }
     store_expr(exprs, t.exprs, v, count as u8);
-    let next = LineCounts {
-        exprs: t.exprs + 1,
-        aggs: t.aggs,
-        steps: t.steps,
-    };
-    Reading::Taken(next, f.len + 1)
+    Ok(Reading {
+        counts: LineCounts {
+            exprs: t.exprs + 1,
+            ..t
+        },
+        len: f.len + 1,
+    })
 }
 
 // What follows a P line's letter.
-fn read_step(s: &[u8], steps: &mut [u8; 1024], t: LineCounts) -> Reading
+fn read_step(s: &[u8], steps: &mut [u8; 1024], t: LineCounts) -> Result<Reading, Refusal>
     requires { (t.exprs + t.aggs ≤ 128) × (t.steps ≤ 32) }
     ensures { (es : List ℕ) → Sound es steps.old t → LineRead (lettered (80 ∷ []) (numbers_of s.now)) (80 ∷ s.now) es steps.old es steps.new t result }
 {
     let mut v = [0u8; 32];
-    let f = crate::line::read_numbers(s, &mut v);
-    if !f.ok {
-        return Reading::Refused(3);
-    }
+    let f = read_numbers(s, &mut v)?;
     if f.count < 7 {
-        return Reading::Refused(3);
+        return Err(Refusal::Form);
     }
-    let count = f.count;
-    if !crate::tables::step_fits(v[0], v[1], v[2], v[3], v[4], v[5], v[6], count) {
-        return Reading::Refused(4);
-    }
-    if 32 <= t.steps {
-        return Reading::Refused(5);
+    if !step_fits(&v, f.count) {
+        return Err(Refusal::Table);
     }
     let aggs = t.aggs + agg_entries(v[0], v[6]);
-    if 128 < t.exprs + aggs {
-        return Reading::Refused(5);
+    if 32 <= t.steps || 128 < t.exprs + aggs {
+        return Err(Refusal::Limits);
     }
     store_step(steps, t.steps, v);
-    let next = LineCounts {
-        exprs: t.exprs,
-        aggs,
-        steps: t.steps + 1,
-    };
-    Reading::Taken(next, f.len + 1)
+    Ok(Reading {
+        counts: LineCounts {
+            aggs,
+            steps: t.steps + 1,
+            ..t
+        },
+        len: f.len + 1,
+    })
 }
 
 // The line at the front of the bytes.
-fn read_line(s: &[u8], exprs: &mut [u8; 2048], steps: &mut [u8; 1024], t: LineCounts) -> Reading
-    requires { (0 < length s.now) × Sound exprs.old steps.old t }
+fn read_line(
+    s: &[u8],
+    exprs: &mut [u8; 2048],
+    steps: &mut [u8; 1024],
+    t: LineCounts,
+) -> Result<Reading, Refusal>
+    requires { Sound exprs.old steps.old t }
     ensures { LineRead (line_here s.now) s.now exprs.old steps.old exprs.new steps.new t result }
 {
-    let letter = s[0];
-    if letter == 69 {
-        return read_expr(&s[1..], exprs, t);
+    match s {
+        [b'E', rest @ ..] => read_expr(rest, exprs, t),
+        [b'P', rest @ ..] => read_step(rest, steps, t),
+        _ => Err(Refusal::Form),
     }
-    if letter == 80 {
-        return read_step(&s[1..], steps, t);
-    }
-    Reading::Refused(3)
-}
-
-// What all lines come to.
-#[derive(Clone, Copy)]
-pub enum Lines {
-    Read(LineCounts),
-    Refused(u8),
 }
 
 // All lines of a sheet.
-pub fn read_lines(sheet: &[u8], exprs: &mut [u8; 2048], steps: &mut [u8; 1024]) -> Lines
+pub fn read_lines(
+    sheet: &[u8],
+    exprs: &mut [u8; 2048],
+    steps: &mut [u8; 1024],
+) -> Result<LineCounts, Refusal>
     ensures { LinesRead sheet.now exprs.new steps.new result }
 {
     let mut t = LineCounts {
@@ -155,16 +136,10 @@ pub fn read_lines(sheet: &[u8], exprs: &mut [u8; 2048], steps: &mut [u8; 1024]) 
         steps: 0,
     };
     let mut rest = sheet;
-    while 0 < rest.len() {
-        match read_line(rest, exprs, steps, t) {
-            Reading::Taken(next, n) => {
-                t = next;
-                rest = &rest[n..];
-            }
-            Reading::Refused(k) => {
-                return Lines::Refused(k);
-            }
-        }
+    while !rest.is_empty() {
+        let line = read_line(rest, exprs, steps, t)?;
+        t = line.counts;
+        rest = &rest[line.len..];
     }
-    Lines::Read(t)
+    Ok(t)
 }

@@ -2,88 +2,81 @@
 ghost use Rattle.std.specs.Prelude.{◌≡◌, ◌≤◌};
 ghost use Rattle.reading.specs.Number.{digit_of, digit_at, number_at, TwoDigits};
 
+use plan::refusal::Refusal;
+
+// A number's value, and how many bytes it is written with.
 #[derive(Clone, Copy)]
-pub enum Number {
-    // The value, and how many bytes it is written with.
-    Value(u8, usize),
-    Bad,
+pub struct Number {
+    pub value: u8,
+    pub width: usize,
 }
 
-// The digit that a byte is; 10 for a comma or byte 10, which end a number, and 11 for any other byte.
-pub fn digit_of(b: u8) -> u8
-    ensures { (result ≡ digit_of b) × (result ≤ 11) }
+// What a byte is to a number.
+#[derive(Clone, Copy)]
+pub enum Byte {
+    Digit(u8),
+    // A comma or byte 10, which end a number.
+    End,
+    Other,
+}
+
+// Digits are told first, which is faster than one match: that would ask for the comma and byte 10 before them.
+pub fn digit_of(b: u8) -> Byte
+    ensures { result ≡ digit_of b }
 {
-    if 57 < b {
-        return 11;
+    if b'9' < b {
+        return Byte::Other;
     }
-    if 48 <= b {
-        return b - 48;
+    if b'0' <= b {
+        return Byte::Digit(b - b'0');
     }
-    if b == 44 {
-        return 10;
+    match b {
+        b',' | b'\n' => Byte::End,
+        _ => Byte::Other,
     }
-    if b == 10 {
-        return 10;
-    }
-    11
 }
 
 // The end of the bytes ends a number too.
-pub fn digit_at(s: &[u8], i: usize) -> u8
-    ensures { (result ≡ digit_at s.now i) × (result ≤ 11) }
+pub fn digit_at(s: &[u8], i: usize) -> Byte
+    ensures { result ≡ digit_at s.now i }
 {
-    if i < s.len() {
-        return digit_of(s[i]);
+    match s.get(i) {
+        Some(b) => digit_of(*b),
+        None => Byte::End,
     }
-    10
-}
-
-fn wide(x: u8) -> u64
-    ensures { result ≡ x }
-{
-    x as u64
 }
 
 // A number of two digits or three, whose first two are a and b.
-fn read_long(s: &[u8], a: u8, b: u8) -> Number
+fn read_long(s: &[u8], a: u8, b: u8) -> Result<Number, Refusal>
     requires { TwoDigits s.now a b }
     ensures { result ≡ number_at s.now }
 {
-    let c = digit_at(s, 2);
-    if c == 10 {
-        return Number::Value(a * 10 + b, 2);
+    match digit_at(s, 2) {
+        Byte::End => Ok(Number {
+            value: a * 10 + b,
+            width: 2,
+        }),
+        Byte::Digit(c) => {
+            let n = (u32::from(a) * 10 + u32::from(b)) * 10 + u32::from(c);
+            match (digit_at(s, 3), u8::try_from(n)) {
+                (Byte::End, Ok(value)) => Ok(Number { value, width: 3 }),
+                _ => Err(Refusal::Form),
+            }
+        }
+        Byte::Other => Err(Refusal::Form),
     }
-    if 10 < c {
-        return Number::Bad;
-    }
-    let d = digit_at(s, 3);
-    if d != 10 {
-        return Number::Bad;
-    }
-    let n = wide(a) * 100 + wide(b) * 10 + wide(c);
-    if 255 < n {
-        return Number::Bad;
-    }
-    Number::Value(n as u8, 3)
 }
 
 // The number at the front of the bytes that follow a comma. Most have one digit, so no byte is looked at before it is needed.
-pub fn read_number(s: &[u8]) -> Number
+pub fn read_number(s: &[u8]) -> Result<Number, Refusal>
     ensures { result ≡ number_at s.now }
 {
-    let a = digit_at(s, 0);
-    if 10 <= a {
-        return Number::Bad;
+    let Byte::Digit(a) = digit_at(s, 0) else {
+        return Err(Refusal::Form);
+    };
+    match digit_at(s, 1) {
+        Byte::End => Ok(Number { value: a, width: 1 }),
+        Byte::Digit(b) if a != 0 => read_long(s, a, b),
+        Byte::Digit(_) | Byte::Other => Err(Refusal::Form),
     }
-    let b = digit_at(s, 1);
-    if b == 10 {
-        return Number::Value(a, 1);
-    }
-    if 10 < b {
-        return Number::Bad;
-    }
-    if a == 0 {
-        return Number::Bad;
-    }
-    read_long(s, a, b)
 }

@@ -1,6 +1,9 @@
 // What each kind of line may have: the tables of document 01 (refusal 4).
-ghost use Rattle.std.specs.Prelude.{◌≡◌, true, ◌&&◌, ◌+◌, ◌≤◌, ◌<◌, leb};
-ghost use Rattle.reading.specs.Tables.{row, expr_numbers_fit, most_a, most_b, most_c, inputs, exprs, most_aggs, within, step_numbers_fit, FewEntries};
+ghost use Rattle.std.specs.Prelude.{◌≡◌, true, ◌&&◌, ◌+◌, ◌≤◌, ◌<◌, leb, get_or};
+ghost use Rattle.reading.specs.Tables.{row, expr_line_fits, most_a, most_b, most_c, inputs, exprs, most_aggs, within, step_line_fits, FewEntries};
+
+use plan::aexpr::AExpr;
+use plan::ir::IR;
 
 // The fewest and the most children of an expression, and its largest option.
 #[derive(Clone, Copy)]
@@ -17,7 +20,7 @@ pub struct Range {
     pub most: u8,
 }
 
-// By kind of expression.
+// By kind of expression. The rows stand in full: a constant's value cannot call a function yet.
 const ROWS: [Row; 25] = [
     Row {
         least: 0,
@@ -154,38 +157,24 @@ pub fn row_of(kind: usize) -> Row
 }
 
 // An E line's numbers, with the count of its children. An Over with an order_by has two children or more.
-pub fn expr_fits(kind: u8, scalar: u8, length_preserving: u8, option: u8, count: usize) -> bool
-    ensures { (result ≡ expr_numbers_fit kind scalar length_preserving option count) × (result ≡ true → count ≤ 8) }
+#[tactic(auto, unfolding(crate::specs::Tables::expr_numbers_fit))]
+pub fn expr_fits(v: &[u8; 32], count: usize) -> bool
+    ensures { (result ≡ expr_line_fits v.now count) × (result ≡ true → count ≤ 8) }
 {
-    if 25 <= kind {
+    let [kind, scalar, length_preserving, option, ..] = *v;
+    if 25 <= kind || 1 < scalar || 1 < length_preserving {
         return false;
     }
-    if 1 < scalar {
+    let row = row_of(usize::from(kind));
+    if row.option < option || count < usize::from(row.least) || usize::from(row.most) < count {
         return false;
     }
-    if 1 < length_preserving {
-        return false;
-    }
-    let row = row_of(kind as usize);
-    if row.option < option {
-        return false;
-    }
-    if count < row.least as usize {
-        return false;
-    }
-    if (row.most as usize) < count {
-        return false;
-    }
-    if kind == 16 {
-        if option == 1 {
-            return 2 <= count;
-        }
-    }
-    true
+    !(kind == u8::from(AExpr::Over) && option == 1) || 2 <= count
 }
 
 // By kind of step, past the table 0.
 
+#[tactic(auto, unfolding(crate::specs::Tables::most_a, plan::specs::Sheet::step_table))]
 pub fn most_a(kind: u8) -> u8
     ensures { result ≡ most_a kind }
 {
@@ -207,6 +196,7 @@ pub fn most_a(kind: u8) -> u8
     }
 }
 
+#[tactic(auto, unfolding(crate::specs::Tables::most_b, plan::specs::Sheet::step_table))]
 pub fn most_b(kind: u8) -> u8
     ensures { result ≡ most_b kind }
 {
@@ -225,6 +215,7 @@ pub fn most_b(kind: u8) -> u8
     }
 }
 
+#[tactic(auto, unfolding(crate::specs::Tables::most_c, plan::specs::Sheet::step_table))]
 pub fn most_c(kind: u8) -> u8
     ensures { result ≡ most_c kind }
 {
@@ -235,6 +226,7 @@ pub fn most_c(kind: u8) -> u8
     }
 }
 
+#[tactic(auto, unfolding(crate::specs::Tables::inputs, plan::specs::Sheet::step_table))]
 pub fn inputs(kind: u8) -> Range
     ensures { (result ≡ inputs kind) × (result.most ≤ 8) }
 {
@@ -254,6 +246,7 @@ pub fn inputs(kind: u8) -> Range
     }
 }
 
+#[tactic(auto, unfolding(crate::specs::Tables::exprs, plan::specs::Sheet::step_table))]
 pub fn exprs(kind: u8) -> Range
     ensures { (result ≡ exprs kind) × (result.most ≤ 8) }
 {
@@ -268,6 +261,7 @@ pub fn exprs(kind: u8) -> Range
     }
 }
 
+#[tactic(auto, unfolding(crate::specs::Tables::most_aggs, plan::specs::Sheet::step_table))]
 pub fn most_aggs(kind: u8) -> u8
     ensures { (result ≡ most_aggs kind) × (result ≤ 8) }
 {
@@ -283,62 +277,30 @@ pub fn most_aggs(kind: u8) -> u8
 fn within(n: u8, c: Range) -> bool
     ensures { result ≡ within n c }
 {
-    if n < c.least {
-        return false;
-    }
-    n <= c.most
-}
-
-fn wide(x: u8) -> usize
-    ensures { result ≡ x }
-{
-    x as usize
+    c.least <= n && n <= c.most
 }
 
 fn options_fit(kind: u8, a: u8, b: u8, c: u8) -> bool
     ensures { result ≡ (leb a (most_a kind) && leb b (most_b kind) && leb c (most_c kind)) }
 {
-    if most_a(kind) < a {
-        return false;
-    }
-    if most_b(kind) < b {
-        return false;
-    }
-    c <= most_c(kind)
+    a <= most_a(kind) && b <= most_b(kind) && c <= most_c(kind)
 }
 
 fn counts_fit(kind: u8, n1: u8, n2: u8, n3: u8) -> bool
     ensures { (result ≡ (within n1 (inputs kind) && within n2 (exprs kind) && leb n3 (most_aggs kind))) × (result ≡ true → FewEntries n1 n2 n3) }
 {
-    if !within(n1, inputs(kind)) {
-        return false;
-    }
-    if !within(n2, exprs(kind)) {
-        return false;
-    }
-    n3 <= most_aggs(kind)
+    within(n1, inputs(kind)) && within(n2, exprs(kind)) && n3 <= most_aggs(kind)
 }
 
 // A P line's numbers, with the count of all of them. A Sink that is not partitioned has no expression.
-pub fn step_fits(kind: u8, a: u8, b: u8, c: u8, n1: u8, n2: u8, n3: u8, count: usize) -> bool
-    ensures { (result ≡ step_numbers_fit kind a b c n1 n2 n3 count) × (result ≡ true → FewEntries n1 n2 n3) }
+#[tactic(auto, unfolding(crate::specs::Tables::step_numbers_fit))]
+pub fn step_fits(v: &[u8; 32], count: usize) -> bool
+    ensures { (result ≡ step_line_fits v.now count) × (result ≡ true → FewEntries (get_or v.now 4 0) (get_or v.now 5 0) (get_or v.now 6 0)) }
 {
-    if 19 <= kind {
-        return false;
-    }
-    if count != 7 + wide(n1) + wide(n2) + wide(n3) {
-        return false;
-    }
-    if !options_fit(kind, a, b, c) {
-        return false;
-    }
-    if !counts_fit(kind, n1, n2, n3) {
-        return false;
-    }
-    if kind == 2 {
-        if b == 0 {
-            return n2 == 0;
-        }
-    }
-    true
+    let [kind, a, b, c, n1, n2, n3, ..] = *v;
+    kind < 19
+        && count == 7 + usize::from(n1) + usize::from(n2) + usize::from(n3)
+        && options_fit(kind, a, b, c)
+        && counts_fit(kind, n1, n2, n3)
+        && (!(kind == u8::from(IR::Sink) && b == 0) || n2 == 0)
 }

@@ -6,7 +6,7 @@ use native.Mathlib.Omega.{arith}
 use native.Mathlib.Decide.{ℕ_discrete}
 use mathlib.Core.Bool.{Bool, true, false}
 use mathlib.Core.List.{List, [], ◌∷◌, ◌++◌}
-use lib.ListN.{length, get_or, set, length-set, length-append}
+use lib.ListN.{length, get_or, set, length-append}
 use lib.Seq.{get_or-set_same, get_or-set_other, set-get_or}
 use Rattle.plan.specs.Sheet.{Expr, Step, no_expr, no_step, expr_at, step_at}
 use Rattle.plan.specs.Look.{switched_off}
@@ -14,20 +14,32 @@ use Rattle.storage.specs.Stored.{stored_expr, held_expr, arena_of, ExprFormed}
 use Rattle.storage.proofs.Laws.{table_at}
 use Rattle.storage.proofs.Append.{arena_appended}
 use Rattle.plan.specs.Visit.{implode, implode_over, with_aggs}
-use Rattle.expr.specs.State.{Falls, sorts}
+use Rattle.storage.specs.Based.{Falls, sorts, Based}
 use Rattle.storage.specs.Exprs.{ExprStored}
-use Rattle.simplify_ordering.specs.Arena.{ArenaHeld}
+use Rattle.storage.specs.declared.stored.Arena.{Arena}
+use Rattle.storage.specs.declared.stored.Lines.{Lines}
+use Rattle.storage.specs.Held.{arena_in}
 use Rattle.storage.specs.Steps.{with_agg}
 
-module _ (recs line : List ℕ) (off : List Bool) (n q : ℕ) (held : ArenaHeld recs line off n) (more : n < 128) (lower : q < n) (exit : List ℕ)
-    (new : ExprStored recs n (implode_over q) exit) where
-  pub implode_law : arena_of exit (set line n n) (set off n false) (n + 1) ≡ arena_of recs line off n ++ (implode_over q ∷ [])
+module _ (a : Arena) (q : ℕ) (more : a.records.count < 128) (lower : q < a.records.count) (exit : List ℕ)
+    (new : ExprStored a.records.bytes a.records.count (implode_over q) exit) where
+  abbrev n : ℕ
+  n = a.records.count
+
+  abbrev held : Based a.records.bytes n
+  held = a.records.based
+
+  abbrev lines : Lines
+  lines = a.lines
+
+  pub implode_law : arena_of exit (set lines.holds n n) (set lines.off n false) (n + 1) ≡ arena_in a ++ (implode_over q ∷ [])
   implode_law =
-      arena_appended recs line off n (implode_over q) exit new (omega (arith, held.lines)) (omega (arith, held.switches)) held.based.formed held.below
+      arena_appended a.records.bytes lines.holds lines.off n (implode_over q) exit new (omega (arith, lines.sized)) (omega (arith, lines.off_sized)) held.formed
+      (λ p h. lines.below p (omega arith))
 
   formed_more : (l : ℕ) → l < n + 1 → Dec (l ≡ n) → ExprFormed exit l
   formed_more l h (yes e) = subst (ExprFormed exit) (sym e) new.formed
-  formed_more l h (no e) = (new.others l e (held.based.formed l (omega (arith, e)))).1
+  formed_more l h (no e) = (new.others l e (held.formed l (omega (arith, e)))).1
 
   falls_more : (l : ℕ) → l < n + 1 → Dec (l ≡ n) → Falls l (stored_expr exit l).children
   falls_more l h (yes e) =
@@ -38,34 +50,31 @@ module _ (recs line : List ℕ) (off : List Bool) (n q : ℕ) (held : ArenaHeld 
       by (suc k) j = absurd (omega arith)
   falls_more l h (no e) =
       let there : l < n = omega (arith, e) in
-      subst (λ (x : Expr). Falls l x.children) (sym (new.others l e (held.based.formed l there)).0) (held.based.falls l there)
+      subst (λ (x : Expr). Falls l x.children) (sym (new.others l e (held.formed l there)).0) (held.falls l there)
 
   sorted_more : (l : ℕ) → l < n + 1 → Dec (l ≡ n) → sorts (stored_expr exit l).kind ≡ true → 0 < length (stored_expr exit l).children
   sorted_more l h (yes e) = rw (e, new.is) (λ _. omega arith)
   sorted_more l h (no e) =
       let there : l < n = omega (arith, e) in
-      subst (λ (x : Expr). sorts x.kind ≡ true → 0 < length x.children) (sym (new.others l e (held.based.formed l there)).0) (held.based.sorted l there)
+      subst (λ (x : Expr). sorts x.kind ≡ true → 0 < length x.children) (sym (new.others l e (held.formed l there)).0) (held.sorted l there)
 
-  below_more : (p : ℕ) → p < n + 1 → Dec (p ≡ n) → get_or (set line n n) p 0 ≤ p
-  below_more p h (yes e) = omega (arith, ap (λ (k : ℕ). get_or (set line n n) k 0) e, get_or-set_same line n n 0 (omega (arith, held.lines)))
-  below_more p h (no e) = rw (get_or-set_other line n p n 0 e) (held.below p (omega (arith, e)))
-
-  pub implode_held : ArenaHeld exit (set line n n) (set off n false) (n + 1)
-  implode_held =
+  pub implode_based : Based exit (n + 1)
+  implode_based =
       record {
-        based =
-            record {
-              few = omega arith;
-              room = omega (arith, new.size, held.records);
-              formed = λ l h. formed_more l h (ℕ_discrete l n);
-              falls = λ l h. falls_more l h (ℕ_discrete l n);
-              sorted = λ l h. sorted_more l h (ℕ_discrete l n);
-            };
-        records = new.size ∙ held.records;
-        lines = length-set line n n ∙ held.lines;
-        switches = length-set off n false ∙ held.switches;
-        below = λ p h. below_more p h (ℕ_discrete p n);
+        few = omega arith;
+        room = omega (arith, new.size, a.records.sized);
+        formed = λ l h. formed_more l h (ℕ_discrete l n);
+        falls = λ l h. falls_more l h (ℕ_discrete l n);
+        sorted = λ l h. sorted_more l h (ℕ_discrete l n);
       }
+
+-- a line that holds its own record still holds none above it
+pub below_more : (l : Lines) (n p : ℕ) → n < 128 → p < 128 → get_or (set l.holds n n) p 0 ≤ p
+below_more l n p few h = by (ℕ_discrete p n)
+  where
+    by : Dec (p ≡ n) → get_or (set l.holds n n) p 0 ≤ p
+    by (yes e) = omega (arith, ap (λ (k : ℕ). get_or (set l.holds n n) k 0) e, get_or-set_same l.holds n n 0 (omega (arith, l.sized)))
+    by (no e) = rw (get_or-set_other l.holds n p n 0 e) (l.below p h)
 
 -- An agg that is a scalar, and one that is not -------------------------------------------------------------------------------------
 

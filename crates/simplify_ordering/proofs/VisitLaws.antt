@@ -7,10 +7,12 @@ use native.Mathlib.Nat.{le_trans}
 use mathlib.Core.Bool.{Bool, true, false, ◌&&◌, not}
 use mathlib.Core.List.{List, [], ◌∷◌, map}
 use lib.Dec.{T}
-use lib.ListN.{length, get_or, set}
+use lib.ListN.{length, set}
 use lib.Seq.{set-set, get_or-set_same}
 use borrow.Author.Tests.{eq-eqb, ne_eqb}
 use Rattle.plan.specs.declared.ir.IR.{IR}
+use Rattle.plan.specs.declared.refusal.Refusal.{Refusal}
+use Rattle.plan.specs.Refusals as refusals
 use Rattle.plan.specs.Kinds.{same_ir}
 use Rattle.plan.specs.FunctionIR.{rust_functions}
 use Rattle.plan.specs.Lists.{yes?}
@@ -19,24 +21,40 @@ use Rattle.plan.specs.Graph.{Edge}
 use Rattle.plan.specs.Visit.{Run, Looked, around, options_of, with_options, looks_of, looked_in, rule, settle, goes, unlink_node, simplify_ir_node_orders, no_edge, refusal_number, ruling_of, settled_by}
 use Rattle.plan.proofs.Settling.{refusal_in}
 use Rattle.plan.specs.Visit as Visit
-use Rattle.storage.proofs.Laws.{length_table, table_at, length_steps}
+use Rattle.storage.proofs.Laws.{length_steps}
 use Rattle.plan.specs.declared.tally.Tally.{Tally}
 use Rattle.plan.specs.Tally.{visit_more}
 use Rattle.plan.specs.declared.rules.Options.{Options}
 use Rattle.plan.specs.declared.rules.Around.{Around}
 use Rattle.plan.specs.declared.rules.Observable.{Observable}
-use Rattle.storage.specs.declared.edges.GraphSize.{GraphSize}
-use Rattle.storage.specs.Edges.{stored_edge, stored_edges}
 use Rattle.node_rules.specs.Held.{Unlinked, Unlinkable, EdgesHeld}
 use Rattle.simplify_ordering.specs.declared.visit.Found.{Found}
 use Rattle.simplify_ordering.specs.Looks.{Listed}
-use Rattle.simplify_ordering.specs.Run.{run_of, RunHeld, RuledBy, stopped_at, SettleAsks}
-use Rattle.storage.proofs.StepLaws.{its_n1}
+use Rattle.simplify_ordering.specs.declared.run.StoredRun.{StoredRun}
+use Rattle.storage.specs.Held.{steps_in, edges_in}
+use Rattle.simplify_ordering.specs.Held.{run_of}
+use Rattle.simplify_ordering.specs.Run.{RuledBy, stopped_at, SettleAsks}
 use Rattle.claims.proofs.Stays.{goes_sort}
 use Rattle.plan.proofs.Counts.{true_of}
 use Rattle.claims.proofs.VisitsKept.{looks_visits}
 use Rattle.simplify_ordering.proofs.ImplodesLaws.{longer_start}
 use Rattle.claims.specs.Visitable.{Visitable}
+
+-- a refusal has a number
+pub not_zero : (e : Refusal) → refusals.refusal_number e ≢ 0
+not_zero Refusal.ShortOutput z = absurd (omega (arith, z))
+not_zero Refusal.LongSheet z = absurd (omega (arith, z))
+not_zero Refusal.Form z = absurd (omega (arith, z))
+not_zero Refusal.Table z = absurd (omega (arith, z))
+not_zero Refusal.Limits z = absurd (omega (arith, z))
+not_zero Refusal.NoPlan z = absurd (omega (arith, z))
+not_zero Refusal.Reference z = absurd (omega (arith, z))
+not_zero Refusal.Unused z = absurd (omega (arith, z))
+not_zero Refusal.StructField z = absurd (omega (arith, z))
+not_zero Refusal.JoinKeys z = absurd (omega (arith, z))
+not_zero Refusal.SinkKeys z = absurd (omega (arith, z))
+not_zero Refusal.UsedTwice z = absurd (omega (arith, z))
+not_zero Refusal.CacheId z = absurd (omega (arith, z))
 
 -- the state of a run
 abbrev pub state : List Expr → List Step → List Edge → List ℕ → List ℕ → Tally → Run
@@ -151,45 +169,17 @@ settle_asked n r v =
       visits = v.visits;
     }
 
-module _ (recs line : List ℕ) (off : List Bool) (m : ℕ) (steps ends edges : List ℕ) (size : GraphSize) (tally : Tally)
-    (held : RunHeld recs line off m steps edges size) (i : ℕ) (v : Visitable i (run_of recs line off m steps ends edges size [] [] tally)) where
-  abbrev ds : List Edge
-  ds = stored_edges ends edges size.edges
+module _ (r : StoredRun) (ends : List ℕ) (i : ℕ) (v : Visitable i (run_of r ends [] [])) where
+  pub here_is : i < r.steps.count
+  here_is = omega (arith, v.step, length_steps r.steps.bytes r.steps.count)
 
-  pub here_is : i < size.steps
-  here_is = omega (arith, v.step, length_steps steps size.steps)
+  pub edges_held : EdgesHeld (steps_in r.steps) (edges_in ends r.edges)
+  edges_held = record { there = v.consumers; slots = v.slots }
 
-  edge_is : (k : ℕ) → k < size.edges → get_or ds k no_edge ≡ stored_edge ends edges k
-  unfolding stored_edges
-  edge_is k h = table_at (stored_edge ends edges) size.edges k no_edge h
-
-  number_there : (k : ℕ) → k < size.edges → k < length ds
-  unfolding stored_edges
-  number_there k h = omega (arith, length_table (stored_edge ends edges) 0 size.edges)
-
-  consumer_there : (k : ℕ) → k < size.edges → (stored_edge ends edges k).consumer < size.steps
-  consumer_there k h =
-      omega (arith, v.consumers k (number_there k h), ap (λ (d : Edge). d.consumer) (edge_is k h), length_steps steps size.steps)
-
-  pub edges_held : EdgesHeld steps size ends edges
-  edges_held =
-      record {
-        few = held.few;
-        bytes = held.bytes;
-        there = consumer_there;
-        slots =
-            λ k h.
-            omega (
-              arith,
-              rw (edge_is k h) at (v.slots k (number_there k h)),
-              its_n1 steps size.steps (stored_edge ends edges k).consumer held.steps_held (consumer_there k h),
-            );
-      }
-
-  pub unlinkable : T (goes i (run_of recs line off m steps ends edges size [] [] tally)) → Unlinkable steps size.steps i ds
+  pub unlinkable : T (goes i (run_of r ends [] [])) → Unlinkable (steps_in r.steps) i (edges_in ends r.edges)
   unlinkable t =
       record {
-        step = here_is;
-        reads = omega (arith, v.input t, its_n1 steps size.steps i held.steps_held here_is);
-        unordered = true_of (Visit.out_edge i ds).unordered (goes_sort i (run_of recs line off m steps ends edges size [] [] tally) t).1;
+        step = v.step;
+        reads = v.input t;
+        unordered = true_of (Visit.out_edge i (edges_in ends r.edges)).unordered (goes_sort i (run_of r ends [] []) t).1;
       }

@@ -1,4 +1,4 @@
-pub mod Arena
+pub mod Held
 pub mod Looks
 pub mod Run
 pub mod Walks

@@ -4,13 +4,13 @@ use mathlib.Core.List.{List, Memᴰ}
 use Rattle.plan.specs.declared.orders.ObservableOrders.{ObservableOrders}
 use Rattle.plan.specs.Sheet.{Expr, Step}
 use Rattle.plan.specs.Look.{Eos, simplify_projected_exprs}
-use Rattle.storage.specs.Stored.{arena_of, stored_steps, StepsHeld}
 use Rattle.plan.specs.Visit.{expr_order_simplifier}
 use Rattle.plan.specs.Visit as Visit
 use Rattle.plan.specs.declared.tally.Tally.{Tally}
-use Rattle.simplify_ordering.specs.declared.looks.VisitLooks.{VisitLooks}
-use Rattle.storage.specs.declared.steps.Entries.{Entries}
-use Rattle.simplify_ordering.specs.Arena.{ArenaHeld}
+use Rattle.plan.specs.declared.rules.Observable.{Observable}
+use Rattle.storage.specs.declared.entries.Entries.{Entries}
+use Rattle.storage.specs.declared.stored.Arena.{Arena}
+use Rattle.storage.specs.Held.{arena_in}
 use Rattle.storage.specs.Steps.{IsList}
 
 -- The two lists xs and ys, from an arena and a tally -----------------------------------------------------------------------------------
@@ -21,24 +21,21 @@ first xs allow es tally = simplify_projected_exprs xs allow (expr_order_simplifi
 abbrev pub second : List ℕ → List ℕ → Bool → List Expr → Tally → ObservableOrders × Eos
 second xs ys allow es tally = simplify_projected_exprs ys false (first xs allow es tally).1
 
-pub record ListsAsk (recs line : List ℕ) (off : List Bool) (n : ℕ) (tally : Tally) (xs ys : List ℕ) (exprs aggs : Entries) (allow : Bool) : Type 0 where
-  pub arena : ArenaHeld recs line off n
+pub record ListsAsk (a : Arena) (tally : Tally) (xs ys : List ℕ) (exprs aggs : Entries) (allow : Bool) : Type 0 where
   pub exprs_are : IsList xs exprs
   pub aggs_are : IsList ys aggs
-  pub exprs_there : (q : ℕ) → Memᴰ q xs → q < n
-  pub aggs_there : (q : ℕ) → Memᴰ q ys → q < n
-  pub between : (first xs allow (arena_of recs line off n) tally).1.tally.looks < 2 ^ 58
-  pub end : (second xs ys allow (arena_of recs line off n) tally).1.tally.looks < 2 ^ 58
+  pub exprs_there : (q : ℕ) → Memᴰ q xs → q < a.records.count
+  pub aggs_there : (q : ℕ) → Memᴰ q ys → q < a.records.count
+  pub between : (first xs allow (arena_in a) tally).1.tally.looks < 2 ^ 58
+  pub end : (second xs ys allow (arena_in a) tally).1.tally.looks < 2 ^ 58
 
--- line' and off' are the lines afterwards
-pub record ListsGive (recs line : List ℕ) (off : List Bool) (n : ℕ) (tally : Tally) (xs ys : List ℕ) (allow : Bool) (line' : List ℕ) (off' : List Bool) (r : VisitLooks) : Type 0 where
-  pub arena : arena_of recs line' off' n ≡ (second xs ys allow (arena_of recs line off n) tally).1.expr_arena
-  pub held : ArenaHeld recs line' off' n
-  pub exprs : r.observable.exprs ≡ (first xs allow (arena_of recs line off n) tally).0
-  pub aggs : r.observable.aggs ≡ (second xs ys allow (arena_of recs line off n) tally).0
-  pub internal : r.observable.internal ≡ (second xs ys allow (arena_of recs line off n) tally).1.internally_observed
-  pub tally_is : r.tally ≡ (second xs ys allow (arena_of recs line off n) tally).1.tally
-  pub exprs_kept : r.exprs ≡ n
+-- es and tally are as before the looks, and the rest as after them
+pub record ListsGive (es : List Expr) (tally : Tally) (xs ys : List ℕ) (allow : Bool) (es' : List Expr) (tally' : Tally) (o : Observable) : Type 0 where
+  pub arena : es' ≡ (second xs ys allow es tally).1.expr_arena
+  pub exprs : o.exprs ≡ (first xs allow es tally).0
+  pub aggs : o.aggs ≡ (second xs ys allow es tally).0
+  pub internal : o.internal ≡ (second xs ys allow es tally).1.internally_observed
+  pub tally_is : tally' ≡ (second xs ys allow es tally).1.tally
 
 -- The lists of step i, the Implodes appended -------------------------------------------------------------------------------------------
 
@@ -51,10 +48,8 @@ pub record Listed (l : Visit.Looked) : Type 0 where
   pub end : l.end.tally.looks < 2 ^ 58
 
 -- l is the definition's looks, ps are the steps before, and the rest is as they leave it
-pub record LooksGive (l : Visit.Looked) (i n : ℕ) (ps : List Step) (steps recs line : List ℕ) (off : List Bool) (r : VisitLooks) : Type 0 where
-  pub arena : arena_of recs line off r.exprs ≡ l.end.expr_arena
-  pub held : ArenaHeld recs line off r.exprs
-  pub steps_are : stored_steps steps n ≡ set ps i l.step
-  pub steps_held : StepsHeld steps n
-  pub observable : r.observable ≡ l.observable
-  pub tally_is : r.tally ≡ l.end.tally
+pub record LooksGive (l : Visit.Looked) (i : ℕ) (ps ps' : List Step) (es : List Expr) (tally : Tally) (o : Observable) : Type 0 where
+  pub arena : es ≡ l.end.expr_arena
+  pub steps_are : ps' ≡ set ps i l.step
+  pub observable : o ≡ l.observable
+  pub tally_is : tally ≡ l.end.tally

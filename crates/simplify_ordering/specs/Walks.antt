@@ -1,37 +1,30 @@
 -- What the walks ask and give.
-use Rattle.std.specs.Prelude.{◌≡◌, ℕ, ◌+◌, ◌≤◌, ◌<◌, ◌^◌, Bool, List, [], ◌∷◌, ◌++◌, length, set}
+use Rattle.std.specs.Prelude.{◌≡◌, ℕ, ◌+◌, ◌≤◌, List, [], ◌∷◌, ◌++◌, length, drop, Result, Ok, Err}
+use Rattle.plan.specs.declared.refusal.Refusal.{Refusal}
+use Rattle.plan.specs.Refusals.{refusal_number}
 use Rattle.plan.specs.Sheet.{Sheet, Outcome, refused, done}
 use Rattle.plan.specs.Graph.{graph}
-use Rattle.storage.specs.Stored.{arena_of, stored_steps}
 use Rattle.plan.specs.Visit.{Run, simplify_ir_node_orders}
-use Rattle.plan.specs.Walks.{walk, begin, down}
+use Rattle.plan.specs.Walks.{walk, begin, down, simplify_and_fetch_orderings}
 use Rattle.claims.specs.WellFormed.{WellFormed}
-use Rattle.plan.specs.declared.tally.Tally.{Tally}
 use Rattle.claims.specs.Visitable.{AllVisitable}
-use Rattle.simplify_ordering.specs.declared.walks.Orderings.{Orderings}
-use Rattle.simplify_ordering.specs.declared.walks.Walked.{Walked}
-use Rattle.storage.specs.declared.edges.GraphSize.{GraphSize}
-use Rattle.storage.specs.Edges.{stored_edges, InRows}
-use Rattle.simplify_ordering.specs.Run.{RunHeld, stopped_at}
+use Rattle.storage.specs.Edges.{InRows}
+use Rattle.simplify_ordering.specs.declared.back.Back.{Back}
+use Rattle.simplify_ordering.specs.declared.run.StoredRun.{StoredRun}
+use Rattle.simplify_ordering.specs.declared.visit.Visited.{Visited}
+use Rattle.storage.specs.Held.{arena_in, steps_in, edges_in}
+use Rattle.simplify_ordering.specs.Run.{stopped_at}
 
 -- One place ----------------------------------------------------------------------------------------------------------------------------
 
--- a place more can be stored, and a sort more counted
-pub record HasRoom (back : List ℕ) (w : Walked) : Type 0 where
-  pub place : 1 ≤ w.at
-  pub few : w.at ≤ 288
-  pub room : length back ≡ 288
-  pub count : w.removed + 1 < 2 ^ 64
+-- the places to go back along
+abbrev pub places : Back → List ℕ
+places b = drop b.at b.places
 
--- What comes of the visit to n. `before` and `after` give the run from the two lists that the code does not hold; w and back are the
--- walk and its array before, r and back' after
-pub data Placed (n : ℕ) (before after : List ℕ → List ℕ → Run) (w : Walked) (back : List ℕ) (r : Walked) (back' : List ℕ) : Type 0 where
-  settled : ((b d : List ℕ) → simplify_ir_node_orders n (before b d) ≡ done (after (n ∷ b) d)) → r.refused ≡ 0 → r.at + 1 ≡ w.at
-      → back' ≡ set back r.at n → r.removed ≡ w.removed → Placed n before after w back r back'
-  removed : ((b d : List ℕ) → simplify_ir_node_orders n (before b d) ≡ done (after b (n ∷ d))) → r.refused ≡ 0 → r.at ≡ w.at
-      → back' ≡ back → r.removed ≡ w.removed + 1 → Placed n before after w back r back'
-  refused_at : ((b d : List ℕ) → simplify_ir_node_orders n (before b d) ≡ refused r.refused) → (r.refused ≡ 0 → ⊥)
-      → ((b d : List ℕ) → stopped_at n (before b d) ≡ after b d) → back' ≡ back → r.at ≡ w.at → r.removed ≡ w.removed → Placed n before after w back r back'
+-- the visit to n is noted: b before, b' after
+abbrev pub Noted : ℕ → Visited → Back → Back → Type 0
+Noted n Visited.Settled b b' = (places b' ≡ n ∷ places b) × (b'.at + 1 ≡ b.at) × (b'.removed ≡ b.removed)
+Noted n Visited.Removed b b' = (places b' ≡ places b) × (b'.at ≡ b.at) × (b'.removed ≡ b.removed + 1)
 
 -- A walk along the places ns ------------------------------------------------------------------------------------------------------------
 
@@ -50,42 +43,36 @@ unfoldable pub walk_stopped : List ℕ → Run → Run
 walk_stopped [] r = r
 walk_stopped (n ∷ ns) r = or_stopped n r (simplify_ir_node_orders n r) (λ r'. walk_stopped ns r')
 
--- as it sets out, nothing is stored in its array, which has room for all of its places
-pub record SetsOut (ns back : List ℕ) (w : Walked) : Type 0 where
-  pub few : length ns ≤ 288
-  pub room : length back ≡ 288
-  pub going : w.refused ≡ 0
-  pub none_stored : w.at ≡ 288
-  pub few_removed : w.removed ≤ 288
-
--- as it ends, the places to go back along stand in its array from r.at on, and at most so many sorts are removed
-pub record GoesBack (back : List ℕ) (most : ℕ) (r : Walked) : Type 0 where
-  pub room : length back ≡ 288
-  pub few : r.at ≤ 288
-  pub few_removed : r.removed ≤ most
-
--- w is as it sets out, r as it ends: it was refused, or it came to its end. `pushed` are the places that were gone back along, `gone`
--- the sorts that were removed
-pub record WalkGives (ns : List ℕ) (before after : List ℕ → List ℕ → Run) (w r : Walked) (pushed : List ℕ) : Type 0 where
+-- r is what it answers. It came to its end: `gone` are the sorts that it removed;
+pub record WalkEnds (ns : List ℕ) (before after : List ℕ → List ℕ → Run) (b : Back) : Type 0 where
   pub gone : List ℕ
-  pub count : r.removed ≡ w.removed + length gone
-  pub is : r.refused ≡ 0 → (back removed : List ℕ) → walk ns (before back removed) ≡ done (after (pushed ++ back) (gone ++ removed))
-  pub refusal : (r.refused ≡ 0 → ⊥) → (back removed : List ℕ) → walk ns (before back removed) ≡ refused r.refused
-  pub stop : (r.refused ≡ 0 → ⊥) → (back removed : List ℕ) → walk_stopped ns (before back removed) ≡ after (pushed ++ back) (gone ++ removed)
+  pub count : b.removed ≡ length gone
+  pub few : b.removed ≤ length ns
+  pub is : (back removed : List ℕ) → walk ns (before back removed) ≡ done (after (places b ++ back) (gone ++ removed))
+
+-- or it was refused: `pushed` are the places that it would have gone back along
+pub record WalkStops (ns : List ℕ) (before after : List ℕ → List ℕ → Run) (e : Refusal) : Type 0 where
+  pub pushed : List ℕ
+  pub gone : List ℕ
+  pub is : (back removed : List ℕ) → walk ns (before back removed) ≡ refused (refusal_number e)
+  pub stop : (back removed : List ℕ) → walk_stopped ns (before back removed) ≡ after (pushed ++ back) (gone ++ removed)
+
+abbrev pub WalkGives : List ℕ → (before after : List ℕ → List ℕ → Run) → Result Back Refusal → Type 0
+WalkGives ns before after (Ok b) = WalkEnds ns before after b
+WalkGives ns before after (Err e) = WalkStops ns before after e
 
 -- Both walks ------------------------------------------------------------------------------------------------------------------------------
 
-abbrev pub sheet_of : List ℕ → List ℕ → List Bool → ℕ → List ℕ → ℕ → Sheet
-sheet_of recs line off m steps n = record { exprs = arena_of recs line off m; steps = stored_steps steps n }
+abbrev pub sheet_of : StoredRun → Sheet
+sheet_of r = record { exprs = arena_in r.arena; steps = steps_in r.steps }
 
 -- a well-formed sheet, its visiting list and its edges as they are made
-pub record FetchAsks (recs line : List ℕ) (off : List Bool) (m : ℕ) (steps ends edges : List ℕ) (size : GraphSize) (list : List ℕ) : Type 0 where
-  pub held : RunHeld recs line off m steps edges size
-  pub formed : WellFormed (sheet_of recs line off m steps size.steps)
+pub record FetchAsks (r : StoredRun) (ends list : List ℕ) : Type 0 where
+  pub formed : WellFormed (sheet_of r)
   pub few : length list ≤ 288
-  pub places_are : list ≡ (graph (stored_steps steps size.steps)).0
-  pub edges_are : stored_edges ends edges size.edges ≡ (graph (stored_steps steps size.steps)).1
-  pub rows : InRows ends size.edges size.steps
+  pub places_are : list ≡ (graph (steps_in r.steps)).0
+  pub edges_are : edges_in ends r.edges ≡ (graph (steps_in r.steps)).1
+  pub rows : InRows ends r.edges.count r.steps.count
 
 -- the run that both walks leave where one of them is refused: from the outcome of the downward walk
 abbrev pub stopped_by : Sheet → Outcome Run → Run
@@ -95,35 +82,9 @@ stopped_by sh (done half) = walk_stopped half.back half
 unfoldable pub fetch_stopped : Sheet → Run
 fetch_stopped sh = stopped_by sh (down sh)
 
--- the downward walk against the definition's: it was refused, or `pushed` are the places to go back along and `gone` the sorts that
--- were removed. `half` gives the run from these two lists
-pub record DownGives (sh : Sheet) (half : List ℕ → List ℕ → Run) (r : Walked) (pushed : List ℕ) : Type 0 where
-  pub gone : List ℕ
-  pub count : r.removed ≡ length gone
-  pub is : r.refused ≡ 0 → down sh ≡ done (half pushed gone)
-  pub refusal : (r.refused ≡ 0 → ⊥) → down sh ≡ refused r.refused
-  pub stop : (r.refused ≡ 0 → ⊥) → walk_stopped (graph sh.steps).0 (begin sh) ≡ half pushed gone
-
--- the answer r from the end w of the upward walk
-pub data Answers (w : Walked) (r : Orderings) : Type 0 where
-  stopped : (w.refused ≡ 0 → ⊥) → r ≡ Orderings.Refused w.refused → Answers w r
-  ended : w.refused ≡ 0 → r ≡ Orderings.Fetched (record { exprs = w.exprs; removed = w.removed; tally = w.tally }) → Answers w r
-
--- the code's answer against the definition's outcome. `after` gives the run from the arena's length, the two lists and the tally
-abbrev pub OrderingsAre : Outcome Run → (ℕ → List ℕ → List ℕ → Tally → Run) → Orderings → Type 0
-OrderingsAre o after (Orderings.Refused k) = o ≡ refused k
-OrderingsAre o after (Orderings.Fetched f) =
-    (back : List ℕ) × (gone : List ℕ) × (o ≡ done (after f.exprs back gone f.tally)) × (f.removed ≡ length gone)
-
--- what the walks leave where one is refused: `stop`, for some arena's length, lists and tally
-pub record StoppedIn (held : ℕ → Type 0) (stop : Run) (after : ℕ → List ℕ → List ℕ → Tally → Run) : Type 0 where
-  pub exprs : ℕ
-  pub back : List ℕ
-  pub removed : List ℕ
-  pub tally : Tally
-  pub is : after exprs back removed tally ≡ stop
-  pub is_held : held exprs
-
-abbrev pub OrderingsHeld : (ℕ → Type 0) → Run → (ℕ → List ℕ → List ℕ → Tally → Run) → Orderings → Type 0
-OrderingsHeld held stop after (Orderings.Refused k) = StoppedIn held stop after
-OrderingsHeld held stop after (Orderings.Fetched f) = held f.exprs
+-- the code's answer against the definition's outcome: how many sorts were removed, or a refusal, and what the walks leave then.
+-- `after` gives the run that they leave from the two lists that the code does not hold
+abbrev pub FetchGives : Sheet → (List ℕ → List ℕ → Run) → Result ℕ Refusal → Type 0
+FetchGives sh after (Ok n) = (back : List ℕ) × (gone : List ℕ) × (simplify_and_fetch_orderings sh ≡ done (after back gone)) × (n ≡ length gone)
+FetchGives sh after (Err e) =
+    (simplify_and_fetch_orderings sh ≡ refused (refusal_number e)) × ((back : List ℕ) × (removed : List ℕ) × (after back removed ≡ fetch_stopped sh))

@@ -1,96 +1,68 @@
 // GroupBy puts an Implode over each agg that is no scalar.
-ghost use Rattle.std.specs.Prelude.{◌≡◌, ℕ, ◌+◌, ◌*◌, ◌≤◌, ◌<◌, length, get_or, set};
+ghost use Rattle.std.specs.Prelude.{◌≡◌, ℕ, ◌+◌, ◌≤◌, ◌<◌, length, get_or, set};
 ghost use mathlib.Core.List.{[], ◌∷◌, ◌++◌, Memᴰ};
 ghost use Rattle.plan.specs.Sheet.{expr_at, step_at};
-ghost use Rattle.storage.specs.Stored.{arena_of, stored_steps, StepsHeld};
 ghost use Rattle.plan.specs.Visit.{implode, imploded, implode_over, with_aggs};
-ghost use Rattle.simplify_ordering.specs.Arena.{ArenaHeld};
-ghost use Rattle.storage.specs.Steps.{HasAgg, with_agg};
+ghost use Rattle.storage.specs.Steps.{with_agg};
+ghost use Rattle.storage.specs.Held.{arena_in, steps_in};
 
 use storage::exprs::is_scalar;
 use storage::records::store_implode;
-use storage::steps::aggs_of;
-use storage::store::store_agg;
+use storage::stored::{Arena, Steps};
 
 // Is line q's record a scalar? is_scalar_ae
-fn is_scalar_ae(recs: &[u8; 2048], line: &[u8; 128], off: &[bool; 128], n: usize, q: u8) -> bool
-    requires { ArenaHeld recs.now line.now off.now n × (q < n) }
-    ensures { result ≡ (expr_at (arena_of recs.now line.now off.now n) q).scalar }
+fn is_scalar_ae(arena: &Arena, q: u8) -> bool
+    requires { q < arena.now.records.count }
+    ensures { result ≡ (expr_at (arena_in arena.now) q).scalar }
 {
-    is_scalar(recs, line[q as usize])
+    is_scalar(&arena.records.bytes, arena.lines.holds[usize::from(q)])
 }
 
 // The arena's next record: an Implode over line q that maintains order.
-pub fn append_implode(
-    recs: &mut [u8; 2048],
-    line: &mut [u8; 128],
-    off: &mut [bool; 128],
-    n: usize,
-    q: u8,
-)
-    requires arena_held { ArenaHeld recs.old line.old off.old n }
-    requires n_bound { (n < 128) × (q < n) }
-    ensures n_after { arena_of recs.new line.new off.new (n + 1) ≡ arena_of recs.old line.old off.old n ++ (implode_over q ∷ []) }
-    ensures arena_held_2 { ArenaHeld recs.new line.new off.new (n + 1) }
+pub fn append_implode(arena: &mut Arena, q: u8)
+    requires room { arena.old.records.count < 128 }
+    requires earlier { q < arena.old.records.count }
+    ensures appended { arena_in arena.new ≡ arena_in arena.old ++ (implode_over q ∷ []) }
+    ensures one_more { arena.new.records.count ≡ arena.old.records.count + 1 }
 {
-    store_implode(recs, n, q);
-    line[n] = n as u8;
-    off[n] = false;
+    let records = &mut arena.records;
+    let n = records.count;
+    store_implode(&mut records.bytes, n, q);
+    records.count = n + 1;
+    arena.lines.holds[n] = n as u8;
+    arena.lines.off[n] = false;
 }
 
-// Entry k of the n3 list of step i: an Implode takes its place, if it is no scalar. The arena's length afterwards.
-fn implode_agg(
-    steps: &mut [u8; 1024],
-    n_steps: usize,
-    i: usize,
-    k: usize,
-    recs: &mut [u8; 2048],
-    line: &mut [u8; 128],
-    off: &mut [bool; 128],
-    n: usize,
-    q: u8,
-) -> usize
-    requires has_agg { HasAgg steps.old n_steps i k }
-    requires arena_held { ArenaHeld recs.old line.old off.old n × (q < n) }
-    requires q_value { q ≡ get_or (step_at (stored_steps steps.old n_steps) i).aggs k 0 }
-    requires n_len_bound { length (implode q (arena_of recs.old line.old off.old n)).1 ≤ 128 }
-    ensures result_after { arena_of recs.new line.new off.new result ≡ (implode q (arena_of recs.old line.old off.old n)).1 }
-    ensures n_steps_after { stored_steps steps.new n_steps ≡ with_agg i k (implode q (arena_of recs.old line.old off.old n)).0 (stored_steps steps.old n_steps) }
-    ensures arena_held_2 { ArenaHeld recs.new line.new off.new result × StepsHeld steps.new n_steps }
+// Entry k of the n3 list of step i, which is q: an Implode takes its place, if it is no scalar.
+fn implode_agg(steps: &mut Steps, i: usize, k: usize, arena: &mut Arena, q: u8)
+    requires step { i < steps.old.count }
+    requires entry { k < length (step_at (steps_in steps.old) i).aggs }
+    requires is_entry { q ≡ get_or (step_at (steps_in steps.old) i).aggs k 0 }
+    requires earlier { q < arena.old.records.count }
+    requires room { length (implode q (arena_in arena.old)).1 ≤ 128 }
+    ensures arena { arena_in arena.new ≡ (implode q (arena_in arena.old)).1 }
+    ensures count { steps.new.count ≡ steps.old.count }
+    ensures steps { steps_in steps.new ≡ with_agg i k (implode q (arena_in arena.old)).0 (steps_in steps.old) }
 {
-    if is_scalar_ae(recs, line, off, n, q) {
-        return n;
+    if is_scalar_ae(arena, q) {
+        return;
     }
-    append_implode(recs, line, off, n, q);
-    store_agg(steps, n_steps, i, k, n as u8);
-    n + 1
+    let n = arena.records.count as u8;
+    append_implode(arena, q);
+    steps.store_agg(i, k, n);
 }
 
-// An Implode over each entry of step i's n3 list that is no scalar. The arena's length afterwards.
-pub fn append_implodes(
-    steps: &mut [u8; 1024],
-    n_steps: usize,
-    i: usize,
-    recs: &mut [u8; 2048],
-    line: &mut [u8; 128],
-    off: &mut [bool; 128],
-    n: usize,
-) -> usize
-    requires steps_held { StepsHeld steps.old n_steps × (i < n_steps) }
-    requires arena_held { ArenaHeld recs.old line.old off.old n }
-    requires by_index { (q : ℕ) → Memᴰ q (step_at (stored_steps steps.old n_steps) i).aggs → q < n }
-    requires n_len_bound { length (imploded (step_at (stored_steps steps.old n_steps) i).aggs (arena_of recs.old line.old off.old n)).1 ≤ 128 }
-    ensures result_after { arena_of recs.new line.new off.new result ≡ (imploded (step_at (stored_steps steps.old n_steps) i).aggs (arena_of recs.old line.old off.old n)).1 }
-    ensures n_steps_after { stored_steps steps.new n_steps ≡ set (stored_steps steps.old n_steps) i (with_aggs (imploded (step_at (stored_steps steps.old n_steps) i).aggs (arena_of recs.old line.old off.old n)).0 (step_at (stored_steps steps.old n_steps) i)) }
-    ensures arena_held_2 { ArenaHeld recs.new line.new off.new result × StepsHeld steps.new n_steps }
+// An Implode over each entry of step i's n3 list that is no scalar.
+pub fn append_implodes(steps: &mut Steps, i: usize, arena: &mut Arena)
+    requires step { i < steps.old.count }
+    requires earlier { (q : ℕ) → Memᴰ q (step_at (steps_in steps.old) i).aggs → q < arena.old.records.count }
+    requires room { length (imploded (step_at (steps_in steps.old) i).aggs (arena_in arena.old)).1 ≤ 128 }
+    ensures arena { arena_in arena.new ≡ (imploded (step_at (steps_in steps.old) i).aggs (arena_in arena.old)).1 }
+    ensures count { steps.new.count ≡ steps.old.count }
+    ensures steps { steps_in steps.new ≡ set (steps_in steps.old) i (with_aggs (imploded (step_at (steps_in steps.old) i).aggs (arena_in arena.old)).0 (step_at (steps_in steps.old) i)) }
 {
-    let aggs = aggs_of(steps, n_steps, i);
-    let count = aggs.count as usize;
-    let mut m = n;
-    let mut k: usize = 0;
-    while k < count {
-        m = implode_agg(steps, n_steps, i, k, recs, line, off, m, aggs.nodes[k]);
-        k = k + 1;
+    let aggs = steps.aggs(i);
+    for k in 0..usize::from(aggs.count) {
+        implode_agg(steps, i, k, arena, aggs.nodes[k]);
     }
-    m
 }

@@ -7,7 +7,6 @@ ghost use Rattle.plan.specs.Finished.{answer_number, answer_length};
 ghost use Rattle.marking.specs.Marking.{marked, mark_answer};
 
 use marking::answer::Mark;
-use plan::answer::Answer;
 
 // The refusal's number, 0 for a finished sheet; its length goes out through `length`, 0 for a refusal.
 #[unsafe(no_mangle)]
@@ -17,13 +16,13 @@ pub extern "C" fn simplify_ordering_finish(sheet: &[u8], out: &mut [u8], length:
     ensures out_after { out.new ≡ (plan.finish sheet.now out.old).output }
 {
     match engine::finish(sheet, out) {
-        Answer::Finished(f) => {
-            *length = f.length;
+        Ok(finished) => {
+            *length = finished.length;
             0
         }
-        Answer::Refused(number) => {
+        Err(refusal) => {
             *length = 0;
-            number
+            u8::from(refusal)
         }
     }
 }
@@ -35,8 +34,8 @@ pub extern "C" fn simplify_ordering_mark(sheet: &[u8], paper: &[u8], out: &mut [
     ensures out_after { out.new ≡ (marked sheet.now paper.now out.old).output }
 {
     match marking::mark(sheet, paper, out) {
-        Mark::Right => 0,
-        Mark::Wrong => 255,
-        Mark::Refused(number) => number,
+        Ok(Mark::Right) => 0,
+        Ok(Mark::Wrong) => 255,
+        Err(refusal) => u8::from(refusal),
     }
 }

@@ -71,7 +71,7 @@ module _ (b : List ℕ) (l : ℕ) (room : l * 16 + 16 ≤ length b) (formed : Ex
       rw (twelve, four, take-append-le (at 12) eight (drop (l * 16 + 12) b) formed.count)
 
   pub is_held : (off : Bool) (k : AExpr) (o : ℕ) → k ≡ aexpr (get_or b (l * 16) 0) → o ≡ (if off then 0 else at 3)
-      → IsHeld b l off (record { kind = k; scalar = eqb (at 1) 1; length_preserving = eqb (at 2) 1; option = o; count = at 12; children = eight })
+      → IsHeld b l off (record { kind = k; scalar = eqb (at 1) 1; length_preserving = eqb (at 2) 1; option = o; children = record { nodes = eight; count = at 12 } })
   unfolding held
   is_held true k o p q = record { is = rw (stored, p, q); shaped = record { few = formed.count; room = refl } }
   is_held false k o p q = record { is = rw (stored, p, q); shaped = record { few = formed.count; room = refl } }

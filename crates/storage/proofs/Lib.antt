@@ -7,3 +7,5 @@ pub mod StepLaws
 pub mod StoreLaws
 pub mod EdgeStores
 pub mod ExprLaws
+pub mod Written
+pub mod Starts

@@ -9,7 +9,7 @@ use Rattle.plan.specs.Kinds.{ir}
 use Rattle.plan.specs.Sheet.{Step, no_step, step_at, step_of}
 use Rattle.storage.specs.Stored.{stored_step, stored_steps, StepsHeld}
 use Rattle.storage.proofs.Laws.{table_at}
-use Rattle.storage.specs.declared.steps.Entries.{Entries}
+use Rattle.storage.specs.declared.entries.Entries.{Entries}
 use Rattle.storage.specs.Steps.{IsList}
 
 -- Eight bytes ----------------------------------------------------------------------------------------------------------------------

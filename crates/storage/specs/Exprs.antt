@@ -1,8 +1,9 @@
 -- What is read of a stored expression, the record of the definition that an ExprRecord is, and what is changed.
-use Rattle.std.specs.Prelude.{◌≡◌, ◌≢◌, ℕ, ◌+◌, ◌*◌, ◌≤◌, ◌<◌, Bool, List, length, get_or, take, if◌then◌else◌}
+use Rattle.std.specs.Prelude.{◌≡◌, ◌≢◌, ℕ, ◌≤◌, ◌<◌, Bool, List, length, get_or, if◌then◌else◌}
 use Rattle.plan.specs.Sheet.{Expr}
 use Rattle.plan.specs.Look.{switched_off}
 use Rattle.storage.specs.Stored.{stored_expr, ExprFormed}
+use Rattle.storage.specs.Entries.{list_of, Shaped}
 use Rattle.storage.specs.declared.exprs.ExprRecord.{ExprRecord}
 
 abbrev pub record_of : ExprRecord → Expr
@@ -12,13 +13,8 @@ record_of e =
       scalar = e.scalar;
       length_preserving = e.length_preserving;
       option = e.option;
-      children = take e.count e.children;
+      children = list_of e.children;
     }
-
--- there are as many children as it says
-pub record Shaped (e : ExprRecord) : Type 0 where
-  pub few : e.count ≤ 8
-  pub room : length e.children ≡ 8
 
 -- what was stored as line l, switched off where off says so
 unfoldable pub held : List ℕ → ℕ → Bool → Expr
@@ -26,13 +22,7 @@ held bytes l off = if off then switched_off (stored_expr bytes l) else stored_ex
 
 pub record IsHeld (bytes : List ℕ) (l : ℕ) (off : Bool) (e : ExprRecord) : Type 0 where
   pub is : record_of e ≡ held bytes l off
-  pub shaped : Shaped e
-
--- the bytes hold record l
-pub record RecordHeld (bytes : List ℕ) (l : ℕ) : Type 0 where
-  pub few : l < 128
-  pub room : l * 16 + 16 ≤ length bytes
-  pub formed : ExprFormed bytes l
+  pub shaped : Shaped e.children
 
 -- record l can be copied over record p, which is behind it
 pub record Copyable (recs : List ℕ) (l p : ℕ) : Type 0 where

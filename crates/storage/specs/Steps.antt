@@ -1,21 +1,8 @@
 -- What is read of a stored step, and what is changed.
-use Rattle.std.specs.Prelude.{◌≡◌, ℕ, ◌+◌, ◌*◌, ◌≤◌, ◌<◌, List, length, get_or, set, take}
+use Rattle.std.specs.Prelude.{◌≡◌, ℕ, ◌+◌, ◌≤◌, List, length, set, take}
 use Rattle.plan.specs.Sheet.{Step, step_at}
 use Rattle.plan.specs.Visit.{with_aggs}
-use Rattle.storage.specs.Stored.{StepsHeld}
-use Rattle.storage.specs.declared.steps.Entries.{Entries}
-
--- step i of n has an input
-pub record HasInput (steps : List ℕ) (n i : ℕ) : Type 0 where
-  pub held : StepsHeld steps n
-  pub here : i < n
-  pub some : 1 ≤ get_or steps (i * 32 + 4) 0
-
--- the n3 list of step i of n has an entry k
-pub record HasAgg (steps : List ℕ) (n i k : ℕ) : Type 0 where
-  pub held : StepsHeld steps n
-  pub here : i < n
-  pub there : k < get_or steps (i * 32 + 6) 0
+use Rattle.storage.specs.declared.entries.Entries.{Entries}
 
 -- a list of `count` entries, of at most eight, can be read from byte b on
 pub record RoomForList (steps : List ℕ) (b count : ℕ) : Type 0 where

@@ -1,7 +1,10 @@
 // The arena written out in place: each line's record, as the line holds it when the walks end, becomes the record of that number.
-ghost use Rattle.std.specs.Prelude.{◌≡◌, ℕ, ◌<◌};
-ghost use Rattle.storage.specs.Stored.{stored_expr, held_expr, arena_of, stored_exprs, ExprFormed, LinesHeld};
+ghost use Rattle.std.specs.Prelude.{◌≡◌, ℕ, ◌<◌, ◌≤◌, length};
+ghost use Rattle.storage.specs.Stored.{stored_expr, held_expr, arena_of, stored_exprs, ExprFormed};
 ghost use Rattle.storage.specs.Exprs.{Copyable, LineHeld, ExprStored};
+ghost use Rattle.storage.specs.Held.{arena_in};
+
+use crate::stored::{Arena, Lines};
 
 // Record l over record p, which is behind it.
 fn copy_record(recs: &mut [u8; 2048], l: usize, p: usize)
@@ -10,36 +13,48 @@ fn copy_record(recs: &mut [u8; 2048], l: usize, p: usize)
 {
     let a = l * 16;
     let b = p * 16;
-    let mut k: usize = 0;
-    while k < 16 {
+    for k in 0..16 {
         recs[b + k] = recs[a + k];
-        k += 1;
     }
 }
 
-// The record that line p holds; the option of an Implode that is switched off is 0.
-fn store_line(recs: &mut [u8; 2048], line: &[u8; 128], off: &[bool; 128], p: usize)
-    requires { LineHeld recs.old line.now p }
-    ensures { ExprStored recs.old p (held_expr recs.old line.now off.now p) recs.new }
-{
-    let l = line[p] as usize;
-    if l != p {
-        copy_record(recs, l, p);
+impl Lines {
+    // The record that line p holds; the option of an Implode that is switched off is 0.
+    fn store(&self, recs: &mut [u8; 2048], p: usize)
+        requires { LineHeld recs.old self.now.holds p }
+        ensures { ExprStored recs.old p (held_expr recs.old self.now.holds self.now.off p) recs.new }
+    {
+        let l = usize::from(self.holds[p]);
+        if l != p {
+            copy_record(recs, l, p);
+        }
+        if self.off[p] {
+            recs[p * 16 + 3] = 0;
+        }
     }
-    if off[p] {
-        recs[p * 16 + 3] = 0;
+
+    // The first n lines, from the last on: no line holds a later line's record, so what is still to be read is as it was.
+    fn store_all(&self, recs: &mut [u8; 2048], n: usize)
+        requires few { n ≤ 128 }
+        requires recs_sized { length recs.old ≡ 2048 }
+        requires formed { (i : ℕ) → i < n → ExprFormed recs.old i }
+        ensures stored { stored_exprs recs.new n ≡ arena_of recs.old self.now.holds self.now.off n }
+        ensures still_formed { (i : ℕ) → i < n → ExprFormed recs.new i }
+        ensures sized { length recs.new ≡ 2048 }
+    {
+        for p in (0..n).rev() {
+            self.store(recs, p);
+        }
     }
 }
 
-// The first n lines, from the last on: no line holds a later line's record, so what is still to be read is as it was.
-pub fn store_lines(recs: &mut [u8; 2048], line: &[u8; 128], off: &[bool; 128], n: usize)
-    requires { LinesHeld recs.old line.now n }
-    ensures n_after { stored_exprs recs.new n ≡ arena_of recs.old line.now off.now n }
-    ensures by_index { (i : ℕ) → i < n → ExprFormed recs.new i }
-{
-    let mut p = n;
-    while 0 < p {
-        p -= 1;
-        store_line(recs, line, off, p);
+impl Arena {
+    // Every line then holds, of the records, the one of its own number.
+    pub fn write_out(&mut self)
+        ensures written { stored_exprs self.new.records.bytes self.new.records.count ≡ arena_in self.old }
+        ensures count { self.new.records.count ≡ self.old.records.count }
+    {
+        let records = &mut self.records;
+        self.lines.store_all(&mut records.bytes, records.count);
     }
 }

@@ -3,15 +3,8 @@ ghost use Rattle.std.specs.Prelude.{◌≡◌, List, [], ◌∷◌, ◌++◌, �
 ghost use Rattle.plan.specs.Visit.{is_out_of};
 ghost use Rattle.storage.specs.Edges.{producer_of, mark, stored_edge, stored_edges, made, loosened_if, produced_if, EdgeChanged};
 
-use plan::choice::pick_byte;
-use plan::sizes::{size_512, size_544};
-
-// How many steps a graph has, and how many edges.
-#[derive(Clone, Copy)]
-pub struct GraphSize {
-    pub steps: usize,
-    pub edges: usize,
-}
+use plan::choice::pick;
+use plan::sizes::size;
 
 // The step that consumes edge k.
 pub fn consumer_of(ends: &[u8; 544], k: usize) -> u8
@@ -65,7 +58,7 @@ pub fn loosen_if(edges: &mut [u8; 512], k: usize, loosened: bool)
     ensures { ((ends : List ℕ) → EdgeChanged (loosened_if loosened) ends k edges.old edges.new) × (length edges.new ≡ 512) }
 {
     let u = edges[256 + k];
-    edges[256 + k] = pick_byte(loosened, 1, u);
+    edges[256 + k] = pick(loosened, 1, u);
 }
 
 // Step p produces edge k, if it is handed on.
@@ -74,7 +67,7 @@ pub fn produce_if(edges: &mut [u8; 512], k: usize, handed_on: bool, p: u8)
     ensures { ((ends : List ℕ) → EdgeChanged (produced_if handed_on p) ends k edges.old edges.new) × (length edges.new ≡ 512) }
 {
     let q = edges[k];
-    edges[k] = pick_byte(handed_on, p, q);
+    edges[k] = pick(handed_on, p, q);
 }
 
 // Edge k is made, behind those before it: from a step into a slot of another. It is ordered.
@@ -90,8 +83,8 @@ pub fn make_edge(
     ensures k_after { stored_edges ends.new edges.new (k + 1) ≡ stored_edges ends.old edges.old k ++ (made consumer slot producer ∷ []) }
     ensures ends_unchanged { drop 512 ends.new ≡ drop 512 ends.old }
 {
-    size_544(ends);
-    size_512(edges);
+    size(ends);
+    size(edges);
     ends[k] = consumer;
     ends[256 + k] = slot;
     edges[k] = producer;
@@ -104,6 +97,6 @@ pub fn store_first_into(ends: &mut [u8; 544], m: u8, k: u8)
     ensures by_index { (edges : List ℕ) (n : ℕ) → n ≤ 256 → stored_edges ends.new edges n ≡ stored_edges ends.old edges n }
     ensures ends_after { drop 512 ends.new ≡ set (drop 512 ends.old) m k }
 {
-    size_544(ends);
+    size(ends);
     ends[512 + (m as usize)] = k;
 }

@@ -1,10 +1,12 @@
 // What is read of a stored expression: the record that a line of the arena holds.
 ghost use Rattle.std.specs.Prelude.{◌≡◌, ◌<◌};
 ghost use Rattle.storage.specs.Stored.{stored_expr};
-ghost use Rattle.storage.specs.Exprs.{RecordHeld, IsHeld};
+ghost use Rattle.storage.specs.Exprs.{IsHeld};
 
+use crate::entries::Entries;
+use crate::stored::Records;
 use plan::aexpr::AExpr;
-use plan::choice::pick_byte;
+use plan::choice::pick;
 
 #[derive(Clone, Copy)]
 pub struct ExprRecord {
@@ -12,34 +14,37 @@ pub struct ExprRecord {
     pub scalar: bool,
     pub length_preserving: bool,
     pub option: u8,
-    // How many of the children there are.
-    pub count: u8,
-    pub children: [u8; 8],
+    pub children: Entries,
 }
 
-// The record that was stored as line l, its option 0 where it was switched off.
-pub fn expr_of(recs: &[u8; 2048], l: u8, off: bool) -> ExprRecord
-    requires { RecordHeld recs.now l }
-    ensures { IsHeld recs.now l off result }
-{
-    let b = (l as usize) * 16;
-    let option = pick_byte(off, 0, recs[b + 3]);
-    ExprRecord {
-        kind: AExpr::of_number(recs[b]),
-        scalar: recs[b + 1] == 1,
-        length_preserving: recs[b + 2] == 1,
-        option: option,
-        count: recs[b + 12],
-        children: [
-            recs[b + 4],
-            recs[b + 5],
-            recs[b + 6],
-            recs[b + 7],
-            recs[b + 8],
-            recs[b + 9],
-            recs[b + 10],
-            recs[b + 11],
-        ],
+impl Records {
+    // The record that was stored as line l, its option 0 where it was switched off.
+    pub fn expr(&self, l: u8, off: bool) -> ExprRecord
+        requires { l < self.now.count }
+        ensures { IsHeld self.now.bytes l off result }
+    {
+        let recs = &self.bytes;
+        let b = (l as usize) * 16;
+        let option = pick(off, 0, recs[b + 3]);
+        ExprRecord {
+            kind: AExpr::of_number(recs[b]),
+            scalar: recs[b + 1] == 1,
+            length_preserving: recs[b + 2] == 1,
+            option,
+            children: Entries {
+                nodes: [
+                    recs[b + 4],
+                    recs[b + 5],
+                    recs[b + 6],
+                    recs[b + 7],
+                    recs[b + 8],
+                    recs[b + 9],
+                    recs[b + 10],
+                    recs[b + 11],
+                ],
+                count: recs[b + 12],
+            },
+        }
     }
 }
 

@@ -1,12 +1,15 @@
 // What is read of a stored step: its kind and options, its first input, and its two lists of expressions.
-ghost use Rattle.std.specs.Prelude.{◌≡◌, ◌<◌, get_or, take, drop};
+ghost use Rattle.std.specs.Prelude.{◌≡◌, ◌<◌, ◌≤◌, length, get_or, take, drop};
 ghost use Rattle.plan.specs.declared.ir.IR.{IR};
 ghost use Rattle.plan.specs.Kinds.{same_ir};
 ghost use Rattle.plan.specs.Sheet.{step_at};
-ghost use Rattle.storage.specs.Stored.{stored_step, stored_steps, StepsHeld};
+ghost use Rattle.storage.specs.Stored.{stored_step};
+ghost use Rattle.storage.specs.Held.{steps_in};
 ghost use Rattle.plan.specs.Visit.{options_of};
-ghost use Rattle.storage.specs.Steps.{HasInput, RoomForList, IsList};
+ghost use Rattle.storage.specs.Steps.{RoomForList, IsList};
 
+use crate::entries::Entries;
+use crate::stored::Steps;
 use plan::ir::IR;
 use plan::rules::Options;
 
@@ -21,14 +24,14 @@ pub fn is_cache(steps: &[u8; 1024], i: usize) -> bool
     requires { i < 32 }
     ensures { result ≡ same_ir (stored_step steps.now i).kind IR.Cache }
 {
-    kind_of(steps, i).number() == 18
+    kind_of(steps, i) == IR::Cache
 }
 
 pub fn is_sink(steps: &[u8; 1024], i: usize) -> bool
     requires { i < 32 }
     ensures { result ≡ same_ir (stored_step steps.now i).kind IR.Sink }
 {
-    kind_of(steps, i).number() == 2
+    kind_of(steps, i) == IR::Sink
 }
 
 // The id of a Cache.
@@ -37,21 +40,6 @@ pub fn cache_id(steps: &[u8; 1024], i: usize) -> u8
     ensures { result ≡ (stored_step steps.now i).a }
 {
     steps[i * 32 + 1]
-}
-
-// The first input of a step that has one.
-pub fn first_input(steps: &[u8; 1024], n: usize, i: usize) -> u8
-    requires { HasInput steps.now n i }
-    ensures { result ≡ get_or (step_at (stored_steps steps.now n) i).inputs 0 0 }
-{
-    steps[i * 32 + 7]
-}
-
-// A list of expressions: the first `count` of the nodes.
-#[derive(Clone, Copy)]
-pub struct Entries {
-    pub nodes: [u8; 8],
-    pub count: u8,
 }
 
 // The list of at most eight that stands from byte b on.
@@ -70,41 +58,52 @@ fn entries_from(steps: &[u8; 1024], b: usize, count: u8) -> Entries
             steps[b + 6],
             steps[b + 7],
         ],
-        count: count,
+        count,
     }
 }
 
-pub fn options_of(steps: &[u8; 1024], n: usize, i: usize) -> Options
-    requires { StepsHeld steps.now n × (i < n) }
-    ensures { result ≡ options_of (step_at (stored_steps steps.now n) i) }
-{
-    let b = i * 32;
-    Options {
-        kind: IR::of_number(steps[b]),
-        a: steps[b + 1],
-        b: steps[b + 2],
-        c: steps[b + 3],
-        n2: steps[b + 5],
+impl Steps {
+    // The first input of step i, which has one.
+    pub fn first_input(&self, i: usize) -> u8
+        requires step { i < self.now.count }
+        requires some { 1 ≤ length (step_at (steps_in self.now) i).inputs }
+        ensures { result ≡ get_or (step_at (steps_in self.now) i).inputs 0 0 }
+    {
+        self.bytes[i * 32 + 7]
     }
-}
 
-// The n2 list.
-pub fn exprs_of(steps: &[u8; 1024], n: usize, i: usize) -> Entries
-    requires { StepsHeld steps.now n × (i < n) }
-    ensures { IsList (step_at (stored_steps steps.now n) i).exprs result }
-{
-    let b = i * 32;
-    let n1 = steps[b + 4] as usize;
-    entries_from(steps, b + (7 + n1), steps[b + 5])
-}
+    pub fn options(&self, i: usize) -> Options
+        requires { i < self.now.count }
+        ensures { result ≡ options_of (step_at (steps_in self.now) i) }
+    {
+        let b = i * 32;
+        Options {
+            kind: IR::of_number(self.bytes[b]),
+            a: self.bytes[b + 1],
+            b: self.bytes[b + 2],
+            c: self.bytes[b + 3],
+            n2: self.bytes[b + 5],
+        }
+    }
 
-// The n3 list.
-pub fn aggs_of(steps: &[u8; 1024], n: usize, i: usize) -> Entries
-    requires { StepsHeld steps.now n × (i < n) }
-    ensures { IsList (step_at (stored_steps steps.now n) i).aggs result }
-{
-    let b = i * 32;
-    let n1 = steps[b + 4] as usize;
-    let n2 = steps[b + 5] as usize;
-    entries_from(steps, b + (7 + (n1 + n2)), steps[b + 6])
+    // The n2 list.
+    pub fn exprs(&self, i: usize) -> Entries
+        requires { i < self.now.count }
+        ensures { IsList (step_at (steps_in self.now) i).exprs result }
+    {
+        let b = i * 32;
+        let n1 = usize::from(self.bytes[b + 4]);
+        entries_from(&self.bytes, b + (7 + n1), self.bytes[b + 5])
+    }
+
+    // The n3 list.
+    pub fn aggs(&self, i: usize) -> Entries
+        requires { i < self.now.count }
+        ensures { IsList (step_at (steps_in self.now) i).aggs result }
+    {
+        let b = i * 32;
+        let n1 = usize::from(self.bytes[b + 4]);
+        let n2 = usize::from(self.bytes[b + 5]);
+        entries_from(&self.bytes, b + (7 + (n1 + n2)), self.bytes[b + 6])
+    }
 }

@@ -9,10 +9,6 @@ use Rattle.plan.specs.Text.{decimal}
 use Rattle.plan.proofs.Decimals.{decimal_one, decimal_more, decimal_short}
 use Rattle.writing.specs.Wrote.{Wrote, field}
 
-pub put_one : (b : ℕ) (o : List ℕ) → 1 ≤ length o → Wrote (b ∷ []) o (set o 0 b) 1
-put_one b [] h = absurd (omega arith)
-put_one b (x ∷ o) h = record { len = refl; bytes = refl }
-
 put_two : (a b : ℕ) (o : List ℕ) → 2 ≤ length o → Wrote (a ∷ b ∷ []) o (set (set o 0 a) 1 b) 2
 put_two a b [] h = absurd (omega arith)
 put_two a b (x ∷ []) h = absurd (omega arith)

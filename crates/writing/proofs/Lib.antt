@@ -1,4 +1,4 @@
 pub mod Over
 pub mod Digits
 pub mod Tally
-pub mod ByteByByte
+pub mod Texts

@@ -5,7 +5,7 @@ use Prim.Native.Nat.{ℕ, ◌+◌, ◌-◌, ◌<◌, ◌≤◌}
 use native.Mathlib.Omega.{arith}
 use native.Mathlib.Numerals.{add-one}
 use lib.ListN.{length, get_or, take, drop, length-append, length-drop}
-use lib.Seq.{take_all, take-append_seam, drop-append_seam, drop-drop, drop-length, take-suc}
+use lib.Seq.{take-append_seam, drop-append_seam, drop-drop, drop-length, take-suc}
 use Rattle.plan.specs.Lists.{concat_map}
 use Rattle.storage.specs.Stored.{table}
 use Rattle.storage.proofs.Laws.{table_more}
@@ -87,10 +87,6 @@ module _ {A : Type 0} (f : A → List ℕ) where
       → Wrote (concat_map f (take (i + 1) xs)) o (take r x ++ (y ++ drop (length x - r) (drop r x))) (r + q)
   turn xs i d o x y r q h v w = rw (← one_more xs i d h) (then (concat_map f (take i xs)) (f (get_or xs i d)) o x y r q v w)
 
-  pub all_turns : (xs : List A) (i : ℕ) (o x : List ℕ) (r : ℕ) → length xs ≤ i → Wrote (concat_map f (take i xs)) o x r
-      → Wrote (concat_map f xs) o x r
-  all_turns xs i o x r h w = rw (take_all i xs h) at w
-
 -- The texts of a table's entries: the invariant of a loop is Wrote (concat_map f (table g 0 i)) entry out len ----------------------
 
 module _ {A : Type 0} (f : A → List ℕ) (g : ℕ → A) where
@@ -100,15 +96,7 @@ module _ {A : Type 0} (f : A → List ℕ) (g : ℕ → A) where
       (rw (add-one, table_more g 0 i, concat_append, concat_one)
       (ap (λ (j : ℕ). concat_map f (table g 0 i) ++ f (g j)) (omega arith)))
 
-  pub no_entry : (o : List ℕ) → Wrote (concat_map f (table g 0 0)) o o 0
-  unfolding concat_map table
-  no_entry o = none_yet o
-
   pub next_entry : (i : ℕ) (o x y : List ℕ) (r q : ℕ) → Wrote (concat_map f (table g 0 i)) o x r
       → Wrote (f (g i)) (take (length x - r) (drop r x)) y q
       → Wrote (concat_map f (table g 0 (i + 1))) o (take r x ++ (y ++ drop (length x - r) (drop r x))) (r + q)
   next_entry i o x y r q v w = rw (← entry_more i) (then (concat_map f (table g 0 i)) (f (g i)) o x y r q v w)
-
-  pub all_entries : (n i : ℕ) (o x : List ℕ) (r : ℕ) → i ≡ n → Wrote (concat_map f (table g 0 i)) o x r
-      → Wrote (concat_map f (table g 0 n)) o x r
-  all_entries n i o x r e w = rw e at w

@@ -1,20 +1,13 @@
--- What the writer of a whole sheet is lent, and what it leaves.
-use Rattle.std.specs.Prelude.{◌≡◌, ℕ, ◌≤◌, List, ◌++◌, length, drop}
+-- What the writer of a whole sheet leaves.
+use Rattle.std.specs.Prelude.{◌≡◌, ℕ, List, ◌++◌, length, drop}
 use Rattle.plan.specs.declared.answer.Finished.{Finished}
-use Rattle.writing.specs.declared.finished.BlockCounts.{BlockCounts}
 use Rattle.writing.specs.declared.finished.Tallies.{Tallies}
-
--- there are no more lines of each letter than the limits allow
-pub record FewLines (n : BlockCounts) : Type 0 where
-  pub exprs : n.exprs ≤ 128
-  pub steps : n.steps ≤ 32
-  pub edges : n.edges ≤ 256
 
 -- r has the figures of the T line too
 pub record FiguresTold (t : Tallies) (r : Finished) : Type 0 where
   pub removed : r.removed ≡ t.removed
-  pub visits : r.visits ≡ t.visits
-  pub looks : r.looks ≡ t.looks
+  pub visits : r.visits ≡ t.tally.visits
+  pub looks : r.looks ≡ t.tally.looks
 
 -- The blocks e, p, g and t were written over the front of a buffer, and r says where they end
 pub record SheetWrote (e p g t entry exit : List ℕ) (r : Finished) : Type 0 where

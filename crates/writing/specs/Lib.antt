@@ -1,3 +1,4 @@
 pub mod Wrote
+pub mod Each
 pub mod Blocks
 pub mod Refusal

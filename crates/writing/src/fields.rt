@@ -16,19 +16,19 @@ pub fn put_field(out: &mut [u8], n: u8) -> usize
     requires { 4 ≤ length out.old }
     ensures { Wrote (field n) out.old out.new result × (result ≤ 4) }
 {
-    out[0] = 44;
+    out[0] = b',';
     if n < 10 {
-        out[1] = 48 + n;
+        out[1] = b'0' + n;
         return 2;
     }
     if n < 100 {
-        out[1] = 48 + n / 10;
-        out[2] = 48 + n % 10;
+        out[1] = b'0' + n / 10;
+        out[2] = b'0' + n % 10;
         return 3;
     }
-    out[1] = 48 + n / 100;
-    out[2] = 48 + n / 10 % 10;
-    out[3] = 48 + n % 10;
+    out[1] = b'0' + n / 100;
+    out[2] = b'0' + n / 10 % 10;
+    out[3] = b'0' + n % 10;
     4
 }
 
@@ -38,10 +38,10 @@ pub fn write_number(out: &mut [u8], n: u64) -> usize
     ensures { Wrote (decimal n) out.old out.new result }
 {
     if n < 10 {
-        return put_byte(out, (48 + n) as u8);
+        return put_byte(out, b'0' + n as u8);
     }
     let k = write_number(out, n / 10);
-    let j = put_byte(&mut out[k..], (48 + n % 10) as u8);
+    let j = put_byte(&mut out[k..], b'0' + (n % 10) as u8);
     k + j
 }
 
@@ -50,7 +50,7 @@ pub fn put_wide_field(out: &mut [u8], n: u64) -> usize
     requires { 21 ≤ length out.old }
     ensures { Wrote (field n) out.old out.new result × (result ≤ 21) }
 {
-    let k = put_byte(out, 44);
+    let k = put_byte(out, b',');
     let j = write_number(&mut out[k..], n);
     k + j
 }

@@ -1,22 +1,21 @@
 // One line: its letter, its numbers behind commas, byte 10.
 ghost use Rattle.std.specs.Prelude.{◌≡◌, [], ◌∷◌, ◌+◌, ◌*◌, ◌≤◌, length, not};
 ghost use Rattle.plan.specs.Lists.{concat_map, digit};
+ghost use Rattle.plan.specs.Refusals.{refusal_number};
 ghost use Rattle.plan.specs.Text.{line};
 ghost use Rattle.writing.specs.Refusal.{refusal_line};
 ghost use Rattle.writing.specs.Wrote.{Wrote, field};
 
 use crate::fields::{put_byte, put_field, put_wide_field};
+use plan::refusal::Refusal;
 
 pub fn put_fields(out: &mut [u8], ns: &[u8]) -> usize
     requires { 4 * length ns.now ≤ length out.old }
     ensures { Wrote (concat_map field ns.now) out.old out.new result × (result ≤ 4 * length ns.now) }
 {
     let mut len: usize = 0;
-    let mut i: usize = 0;
-    while i < ns.len() {
-        let k = put_field(&mut out[len..], ns[i]);
-        len = len + k;
-        i = i + 1;
+    for n in ns {
+        len += put_field(&mut out[len..], *n);
     }
     len
 }
@@ -28,14 +27,14 @@ pub fn put_line(out: &mut [u8], letter: u8, ns: &[u8]) -> usize
 {
     let a = put_byte(out, letter);
     let b = a + put_fields(&mut out[a..], ns);
-    b + put_byte(&mut out[b..], 10)
+    b + put_byte(&mut out[b..], b'\n')
 }
 
 // 1 for an ordered edge.
 pub fn order_digit(unordered: bool) -> u8
     ensures { result ≡ digit (not unordered) }
 {
-    if unordered { 0 } else { 1 }
+    u8::from(!unordered)
 }
 
 // A G line: consumer, slot, order.
@@ -44,7 +43,7 @@ pub fn put_edge(out: &mut [u8], consumer: u8, slot: u8, unordered: bool) -> usiz
     ensures { Wrote (line 71 (consumer ∷ slot ∷ digit (not unordered) ∷ [])) out.old out.new result × (result ≤ 14) }
 {
     let ns = [consumer, slot, order_digit(unordered)];
-    put_line(out, 71, &ns)
+    put_line(out, b'G', &ns)
 }
 
 // The T line.
@@ -52,18 +51,17 @@ pub fn put_tally(out: &mut [u8], removed: u64, visits: u64, looks: u64) -> usize
     requires { 65 ≤ length out.old }
     ensures { Wrote (line 84 (removed ∷ visits ∷ looks ∷ [])) out.old out.new result × (result ≤ 65) }
 {
-    let a = put_byte(out, 84);
+    let a = put_byte(out, b'T');
     let b = a + put_wide_field(&mut out[a..], removed);
     let c = b + put_wide_field(&mut out[b..], visits);
     let d = c + put_wide_field(&mut out[c..], looks);
-    d + put_byte(&mut out[d..], 10)
+    d + put_byte(&mut out[d..], b'\n')
 }
 
 // What is printed for a refusal.
-pub fn put_refusal(out: &mut [u8], number: u8) -> usize
+pub fn put_refusal(out: &mut [u8], refusal: Refusal) -> usize
     requires { 6 ≤ length out.old }
-    ensures { Wrote (refusal_line number) out.old out.new result × (result ≤ 6) }
+    ensures { Wrote (refusal_line (refusal_number refusal)) out.old out.new result × (result ≤ 6) }
 {
-    let ns = [number];
-    put_line(out, 82, &ns)
+    put_line(out, b'R', &[u8::from(refusal)])
 }

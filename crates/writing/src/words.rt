@@ -6,10 +6,6 @@ pub fn put_word(out: &mut [u8], word: &[u8]) -> usize
     requires { length word.now ≤ length out.old }
     ensures { Wrote word.now out.old out.new result }
 {
-    let mut i: usize = 0;
-    while i < word.len() {
-        out[i] = word[i];
-        i = i + 1;
-    }
-    i
+    out[..word.len()].copy_from_slice(word);
+    word.len()
 }

@@ -1,16 +1,25 @@
-use Rattle.reading.proofs.Accepted.{read_plan}
-use Rattle.engine.proofs.CallLaws.{short_call, turned_back, taken_call, plan_stored, promised}
+use Rattle.std.proofs.lemmas.Result.{err_from_is_err_and}
+use Rattle.plan.specs.Refusals.{outcome_of}
+use Rattle.simplify_ordering.specs.Walks.{sheet_of}
+use Rattle.engine.proofs.CallLaws.{short_call, turned_back, taken_call, accepted_formed, promised}
 use Rattle.engine.proofs.finish.Goals as goal
 
 pub returns-then-out-lt16384 : goal.returns-then-out-lt16384
-returns-then-out-lt16384 c = let both = promised _ _ _ _ (short_call _ _ c.if-out-lt16384.true) in record { out_after = both.0; demand_3_kept = both.1.0; result_in_bounds = both.1.1.0; demand_1 = both.1.1.1 }
+returns-then-out-lt16384 c =
+    let p = promised _ _ _ _ (short_call _ _ c.if-out-lt16384.true) in
+    record { out_after = p.0; demand_3_kept = p.1.0; result_in_bounds = p.1.1.0; demand_1 = p.1.1.1 }
 
-pub finish_plan-requires : goal.finish_plan-requires
-finish_plan-requires c = record { in_bounds = c.if-out-lt16384.false; plan_stored = plan_stored _ _ _ _ (read_plan _ _ _ _ _ c.in-Taken.is c.read_plan.ensures.0 c.read_plan.ensures.1) }
+pub returns-in_err-read_run : goal.returns-in_err-read_run
+returns-in_err-read_run c =
+    let e = err_from_is_err_and c.from_residual.result c.from_residual.ensures.1 in
+    let p = promised _ _ _ _ (turned_back c.args.sheet.now c.args.out.now c.if-out-lt16384.false _ c.in_err-read_run.ensures.read) in
+    rw (e.1, e.2) (record { out_after = p.0; demand_3_kept = p.1.0; result_in_bounds = p.1.1.0; demand_1 = p.1.1.1 })
 
-pub returns-in-Refused : goal.returns-in-Refused
-returns-in-Refused c = let both = promised _ _ _ _ (turned_back _ _ c.if-out-lt16384.false _ _ _ _ c.read_plan.ensures.0 c.in-Refused.is) in record { out_after = both.0; demand_3_kept = both.1.0; result_in_bounds = both.1.1.0; demand_1 = both.1.1.1 }
+pub finish_run-requires : goal.finish_run-requires
+finish_run-requires c =
+    record { in_bounds = c.if-out-lt16384.false; formed = accepted_formed c.args.sheet.now (sheet_of c.read_run.new.run) c.in_ok-read_run.ensures.read }
 
-pub returns-in-Taken : goal.returns-in-Taken
-returns-in-Taken c = let both = let k = read_plan _ _ _ _ _ c.in-Taken.is c.read_plan.ensures.0 c.read_plan.ensures.1 in
-    promised _ _ _ _ (taken_call _ _ c.if-out-lt16384.false _ _ _ k _ _ c.finish_plan.ensures) in record { out_after = both.0; demand_3_kept = both.1.0; result_in_bounds = both.1.1.0; demand_1 = both.1.1.1 }
+pub returns : goal.returns
+returns c =
+    let p = promised _ _ _ _ (taken_call c.args.sheet.now c.args.out.now c.if-out-lt16384.false (sheet_of c.read_run.new.run) c.in_ok-read_run.ensures.read (outcome_of c.finish_run.result) c.finish_run.new.out c.finish_run.ensures) in
+    record { out_after = p.0; demand_3_kept = p.1.0; result_in_bounds = p.1.1.0; demand_1 = p.1.1.1 }

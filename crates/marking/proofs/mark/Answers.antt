@@ -1,29 +1,31 @@
+use Rattle.std.proofs.lemmas.Result.{err_from_is_err_and}
 use Rattle.marking.proofs.MarkWays.{places_ordered, finished_mark, refused_mark}
 use borrow.Author.Rules.{rules}
 use Rattle.marking.proofs.mark.Goals as goal
 
+pub returns-in_err-ends : goal.returns-in_err-ends
+returns-in_err-ends c =
+    let p = err_from_is_err_and c.from_residual.result c.from_residual.ensures.1 in
+    rw (p.1, p.2) (refused_mark _ _ _ _ _ c.in_err-ends.ensures.out_after)
+
 -- where the sheet is finished, its blocks stand in their order
+pub slice_bounds-compare-count : goal.slice_bounds-compare-count
+slice_bounds-compare-count c = let o = places_ordered _ _ _ _ c.in_ok-ends.ensures.out_after in search rules
+
 pub slice_bounds-compare-start : goal.slice_bounds-compare-start
-slice_bounds-compare-start c = let o = places_ordered _ _ _ _ c.finish.ensures.out_after _ c.in-Finished.is in search rules
+slice_bounds-compare-start c = let o = places_ordered _ _ _ _ c.in_ok-ends.ensures.out_after in search rules
 
 pub slice_bounds-compare-end : goal.slice_bounds-compare-end
-slice_bounds-compare-end c = let o = places_ordered _ _ _ _ c.finish.ensures.out_after _ c.in-Finished.is in search rules
+slice_bounds-compare-end c = let o = places_ordered _ _ _ _ c.in_ok-ends.ensures.out_after in search rules
 
-pub slice_bounds-compare-count : goal.slice_bounds-compare-count
-slice_bounds-compare-count c = let o = places_ordered _ _ _ _ c.finish.ensures.out_after _ c.in-Finished.is in search rules
+pub slice_bounds-compare-count-2 : goal.slice_bounds-compare-count-2
+slice_bounds-compare-count-2 c = let o = places_ordered _ _ _ _ c.in_ok-ends.ensures.out_after in search rules
 
-pub slice_bounds-compare-start-in-Finished : goal.slice_bounds-compare-start-in-Finished
-slice_bounds-compare-start-in-Finished c = let o = places_ordered _ _ _ _ c.finish.ensures.out_after _ c.in-Finished.is in search rules
+pub slice_bounds-compare-start-2 : goal.slice_bounds-compare-start-2
+slice_bounds-compare-start-2 c = let o = places_ordered _ _ _ _ c.in_ok-ends.ensures.out_after in search rules
 
-pub slice_bounds-compare-end-in-Finished : goal.slice_bounds-compare-end-in-Finished
-slice_bounds-compare-end-in-Finished c = let o = places_ordered _ _ _ _ c.finish.ensures.out_after _ c.in-Finished.is in search rules
+pub slice_bounds-compare-end-2 : goal.slice_bounds-compare-end-2
+slice_bounds-compare-end-2 c = let o = places_ordered _ _ _ _ c.in_ok-ends.ensures.out_after in search rules
 
-pub slice_bounds-compare-count-in-Finished : goal.slice_bounds-compare-count-in-Finished
-slice_bounds-compare-count-in-Finished c = let o = places_ordered _ _ _ _ c.finish.ensures.out_after _ c.in-Finished.is in search rules
-
-pub returns-in-Finished : goal.returns-in-Finished
-returns-in-Finished c =
-    finished_mark _ _ _ _ c.finish.ensures.out_after _ _ c.in-Finished.is _ c.compare.ensures
-
-pub returns-in-Refused : goal.returns-in-Refused
-returns-in-Refused c = refused_mark _ _ _ _ c.finish.ensures.out_after _ _ c.in-Refused.is
+pub returns : goal.returns
+returns c = finished_mark _ _ _ _ _ c.in_ok-ends.ensures.out_after _ c.compare.ensures

@@ -1,33 +1,38 @@
 use native.Mathlib.Omega.{arith}
+use borrow.Author.Rules.{rules}
+use mathlib.Core.Path.{refl}
+use Rattle.std.proofs.lemmas.Result.{err_from_is_err_and}
+use Rattle.plan.specs.declared.refusal.Refusal.{Refusal}
+use Rattle.reading.proofs.Names.{some_number}
 use Rattle.reading.proofs.Plans.{refuses, no_step, bad_reference, bad_use, bad_id, bad_field, good, taken}
 use Rattle.reading.proofs.Refers.{children_first}
-use borrow.Author.Rules.{rules}
 use Rattle.reading.proofs.check_plan.Goals as goal
 
 pub returns-then-n-eq0 : goal.returns-then-n-eq0
-returns-then-n-eq0 c =
-    (refuses _ _ _ 6 (no_step c.args.exprs.now c.args.steps.now c.args.count c.args.n (omega arith)), tt)
+returns-then-n-eq0 c = (refuses _ _ _ Refusal.NoPlan (no_step c.args.exprs.now c.args.steps.now c.args.count c.args.n (omega arith)), tt)
 
 pub returns-then-not-references_right : goal.returns-then-not-references_right
 returns-then-not-references_right c = (
-  refuses _ _ _ 7
+  refuses _ _ _ Refusal.Reference
       (bad_reference c.args.exprs.now c.args.steps.now c.args.count c.args.n c.if-n-eq0.false c.references_right.ensures c.if-not-references_right.true),
   tt,
 )
 
-pub returns-then-fault-ne0 : goal.returns-then-fault-ne0
-returns-then-fault-ne0 c = (
-  refuses _ _ _ _
-      (bad_use c.args.exprs.now c.args.steps.now c.args.count c.args.n c.if-n-eq0.false c.references_right.ensures c.if-not-references_right.false
-      c.uses_fault-fault.ensures c.if-fault-ne0.true),
-  tt,
-)
+pub returns-in_err-uses_fault : goal.returns-in_err-uses_fault
+returns-in_err-uses_fault c =
+    let p = err_from_is_err_and c.from_residual.result c.from_residual.ensures.1 in
+    rw (p.1, p.2) (
+      refuses _ _ _ _
+          (bad_use c.args.exprs.now c.args.steps.now c.args.count c.args.n c.if-n-eq0.false c.references_right.ensures c.if-not-references_right.false
+          c.in_err-uses_fault.ensures (some_number _)),
+      tt,
+    )
 
 pub returns-then-not-ids_differ : goal.returns-then-not-ids_differ
 returns-then-not-ids_differ c = (
-  refuses _ _ _ 13
+  refuses _ _ _ Refusal.CacheId
       (bad_id c.args.exprs.now c.args.steps.now c.args.count c.args.n c.if-n-eq0.false c.references_right.ensures c.if-not-references_right.false
-      c.uses_fault-fault.ensures c.if-fault-ne0.false c.ids_differ.ensures c.if-not-ids_differ.true),
+      c.in_ok-uses_fault.ensures refl c.ids_differ.ensures c.if-not-ids_differ.true),
   tt,
 )
 
@@ -39,9 +44,9 @@ fields_right-requires c = (
 
 pub returns-then-not-fields_right : goal.returns-then-not-fields_right
 returns-then-not-fields_right c = (
-  refuses _ _ _ 9
+  refuses _ _ _ Refusal.StructField
       (bad_field c.args.exprs.now c.args.steps.now c.args.count c.args.n c.if-n-eq0.false c.references_right.ensures c.if-not-references_right.false
-      c.uses_fault-fault.ensures c.if-fault-ne0.false c.ids_differ.ensures c.if-not-ids_differ.false
+      c.in_ok-uses_fault.ensures refl c.ids_differ.ensures c.if-not-ids_differ.false
       c.fields_right.ensures c.if-not-fields_right.true),
   tt,
 )
@@ -50,7 +55,7 @@ pub returns : goal.returns
 returns c = (
   taken c.args.exprs.now c.args.steps.now c.args.count c.args.n _
       (good c.args.exprs.now c.args.steps.now c.args.count c.args.n c.if-n-eq0.false c.references_right.ensures c.if-not-references_right.false
-      c.uses_fault-fault.ensures c.if-fault-ne0.false c.ids_differ.ensures c.if-not-ids_differ.false
+      c.in_ok-uses_fault.ensures refl c.ids_differ.ensures c.if-not-ids_differ.false
       c.fields_right.ensures c.if-not-fields_right.false),
   c.requires,
 )

@@ -1,16 +1,19 @@
-use Rattle.reading.proofs.Plans.{refuses, too_long, bad_line, good_lines, held_exprs, held_steps, refused_is, read_is, same_plan}
+use native.Mathlib.Omega.{arith}
+use Rattle.std.proofs.lemmas.Result.{err_from_is_err_and}
+use Rattle.plan.specs.declared.refusal.Refusal.{Refusal}
+use Rattle.reading.proofs.Plans.{refuses, too_long, bad_line, good_lines, held_exprs, held_steps, same_plan}
 use Rattle.reading.proofs.read_plan.Goals as goal
 
 pub returns-then-sheet-gt16384 : goal.returns-then-sheet-gt16384
-returns-then-sheet-gt16384 c = (refuses _ _ _ 2 (too_long c.args.sheet.now c.if-sheet-gt16384.true), tt)
+returns-then-sheet-gt16384 c = (refuses _ _ _ Refusal.LongSheet (too_long c.args.sheet.now c.if-sheet-gt16384.true), tt)
+
+pub returns-in_err-lines : goal.returns-in_err-lines
+returns-in_err-lines c =
+    let p = err_from_is_err_and c.from_residual.result c.from_residual.ensures.1 in
+    rw (p.1, p.2) (refuses _ _ _ _ (bad_line c.args.sheet.now c.if-sheet-gt16384.false _ c.in_err-lines.ensures), tt)
 
 pub check_plan-requires : goal.check_plan-requires
-check_plan-requires c = let r = (read_is c.args.sheet.now c.read_lines.new.exprs c.read_lines.new.steps _ _ c.read_lines.ensures c.in-Read.is).sound in
-    (held_exprs r, held_steps r c.size_1024.ensures)
+check_plan-requires c = (held_exprs c.in_ok-lines.ensures.sound, held_steps c.in_ok-lines.ensures.sound (omega arith))
 
-pub returns-in-Refused : goal.returns-in-Refused
-returns-in-Refused c = (refuses _ _ _ _ (bad_line c.args.sheet.now c.if-sheet-gt16384.false _ (refused_is c.args.sheet.now c.read_lines.new.exprs c.read_lines.new.steps _ _ c.read_lines.ensures c.in-Refused.is)), tt)
-
-pub returns-in-Read : goal.returns-in-Read
-returns-in-Read c = let r = read_is c.args.sheet.now c.read_lines.new.exprs c.read_lines.new.steps _ _ c.read_lines.ensures c.in-Read.is in
-    (same_plan _ _ _ _ _ (good_lines c.args.sheet.now c.if-sheet-gt16384.false _ r.taken) c.check_plan.ensures.0, c.check_plan.ensures.1)
+pub returns : goal.returns
+returns c = (same_plan _ _ _ _ _ (good_lines c.args.sheet.now c.if-sheet-gt16384.false _ c.in_ok-lines.ensures.taken) c.check_plan.ensures.0, c.check_plan.ensures.1)

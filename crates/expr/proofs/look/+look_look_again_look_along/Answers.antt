@@ -1,52 +1,63 @@
 -- The cycle `look`, `look_again`, `look_along`: each way through it is a law of Ways or Children.
 use native.Mathlib.Omega.{arith}
+use native.Mathlib.Nat.{le_trans}
 use borrow.Author.Rules.{rules}
 use mathlib.Core.Path.{ap, ◌∙◌}
 use Rattle.expr.specs.Eos.{Own}
-use Rattle.expr.proofs.Ways.{count_fits, e_reach, e_readable, gives_hit, child_128, copy_falls, copy_asks, gives_copy, along_asks, again_falls, again_asks, gives_whole, gives_twice, gives_once}
+use Rattle.expr.proofs.States.{holds}
+use Rattle.expr.proofs.Ways.{count_fits, e_reach, e_readable, gives_hit, child_128, copy_kept, copy_falls, copy_asks, gives_copy, along_asks, again_falls, again_asks, gives_whole, gives_twice, gives_once}
 use Rattle.expr.proofs.Leaves.{gives_leaf}
 use Rattle.expr.proofs.Children.{reached_none, along_gives, child_falls, child_asks, reached_more}
 use Rattle.expr.proofs.look.+look_look_again_look_along.Goals as goal
 
 pub look-looked-t-requires : goal.look-looked-t-requires
-look-looked-t-requires t c = search (rules, count_fits _ _ _ _ _ c.requires)
+look-looked-t-requires t c = search (rules, count_fits _ _ _ _ _ (holds c.args.records.now c.args.lines.now c.requires.cached) c.requires)
 
-pub look-returns-then-kind-recs : goal.look-returns-then-kind-recs
-look-returns-then-kind-recs t c =
+pub look-returns-in-Some : goal.look-returns-in-Some
+look-returns-in-Some t c =
     let field = c.field-field.ensures ∙ ap (λ (w : Own). w.field) c.looked-t.ensures in
-    rw (c.with_answer.ensures, c.looked-t.ensures) (gives_leaf _ _ _ _ _ c.requires c.if-kind-recs.true _ (rw field at c.leaf.ensures))
+    let answer = rw (field, c.of_number.ensures) at c.in-Some.ensures in
+    rw (c.with_answer.ensures, c.looked-t.ensures) (gives_leaf _ _ _ _ _ (holds c.args.records.now c.args.lines.now c.requires.cached) c.requires c.if-base-at-eq0.true _ answer)
 
-pub look-returns-then-b-entry : goal.look-returns-then-b-entry
-look-returns-then-b-entry t c =
-    rw (c.with_answer-then-b-entry.ensures, c.looked-t.ensures) (gives_hit _ _ _ _ _ c.requires _ c.expr_of-e.ensures _ c.before_of-b.ensures _ c.if-b-entry.true c.unpacked.ensures)
+pub look-returns-in-Some-hit : goal.look-returns-in-Some-hit
+look-returns-in-Some-hit t c =
+    rw (c.with_answer-in-Some-hit.ensures, c.looked-t.ensures) (gives_hit _ _ _ _ _ (holds c.args.records.now c.args.lines.now c.requires.cached) c.requires _ c.expr-e.ensures _ c.before_of-b.ensures _ c.pick-hit.ensures _ c.in-Some-hit.is)
 
 pub look-is_replaced-requires : goal.look-is_replaced-requires
-look-is_replaced-requires t c = (c.expr_of-e.ensures.shaped, e_readable _ _ _ _ _ c.requires _ c.expr_of-e.ensures)
+look-is_replaced-requires t c = (c.expr-e.ensures.shaped, e_readable _ _ _ _ _ (holds c.args.records.now c.args.lines.now c.requires.cached) c.requires _ c.expr-e.ensures)
 
-pub look-bounds-line-c : goal.look-bounds-line-c
-look-bounds-line-c t c =
-    child_128 _ _ _ _ _ c.requires _ c.expr_of-e.ensures _ c.before_of-b.ensures c.if-b-entry.false _ c.is_replaced.ensures c.if-is_replaced.true _ c.first_child-c.ensures
+pub look-bounds-lines-c : goal.look-bounds-lines-c
+look-bounds-lines-c t c =
+    child_128 _ _ _ _ _ (holds c.args.records.now c.args.lines.now c.requires.cached) c.requires _ c.expr-e.ensures _ c.before_of-b.ensures _ c.pick-hit.ensures c.in_default-hit.is _ c.is_replaced.ensures c.if-is_replaced.true _ c.first-c.ensures
 
-pub look-bounds-off-c : goal.look-bounds-off-c
-look-bounds-off-c t c =
-    child_128 _ _ _ _ _ c.requires _ c.expr_of-e.ensures _ c.before_of-b.ensures c.if-b-entry.false _ c.is_replaced.ensures c.if-is_replaced.true _ c.first_child-c.ensures
+pub look-bounds-lines-c-then-is_replaced : goal.look-bounds-lines-c-then-is_replaced
+look-bounds-lines-c-then-is_replaced t c =
+    child_128 _ _ _ _ _ (holds c.args.records.now c.args.lines.now c.requires.cached) c.requires _ c.expr-e.ensures _ c.before_of-b.ensures _ c.pick-hit.ensures c.in_default-hit.is _ c.is_replaced.ensures c.if-is_replaced.true _ c.first-c.ensures
+
+pub look-invariant_of-lines : goal.look-invariant_of-lines
+look-invariant_of-lines t c =
+    let lines = c.args.lines.now in
+    let held = holds c.args.records.now lines c.requires.cached in
+    let kept = copy_kept _ _ _ _ _ held c.requires _ c.expr-e.ensures _ c.before_of-b.ensures _ c.pick-hit.ensures c.in_default-hit.is _ c.is_replaced.ensures c.if-is_replaced.true _ c.first-c.ensures in
+    let sized = kept.sized held.formed.sized in
+    record { below = λ q h. le_trans (kept.lower q) (lines.below q h); sized = sized.line; off_sized = sized.off }
 
 pub look-look-requires : goal.look-look-requires
 look-look-requires t c =
     let falls = c.decreases in (
-      omega (arith, falls, copy_falls _ _ _ _ _ c.requires _ c.expr_of-e.ensures _ c.before_of-b.ensures c.if-b-entry.false _ c.is_replaced.ensures c.if-is_replaced.true _ c.first_child-c.ensures),
-      rw c.looked-t.ensures (copy_asks _ _ _ _ _ c.requires _ c.expr_of-e.ensures _ c.before_of-b.ensures c.if-b-entry.false _ c.is_replaced.ensures c.if-is_replaced.true _ c.first_child-c.ensures),
+      omega (arith, falls, copy_falls _ _ _ _ _ (holds c.args.records.now c.args.lines.now c.requires.cached) c.requires _ c.expr-e.ensures _ c.before_of-b.ensures _ c.pick-hit.ensures c.in_default-hit.is _ c.is_replaced.ensures c.if-is_replaced.true _ c.first-c.ensures),
+      rw c.looked-t.ensures (copy_asks _ _ _ _ _ (holds c.args.records.now c.args.lines.now c.requires.cached) c.requires _ c.expr-e.ensures _ c.before_of-b.ensures _ c.pick-hit.ensures c.in_default-hit.is _ c.is_replaced.ensures c.if-is_replaced.true _ c.first-c.ensures),
     )
 
 pub look-returns-then-is_replaced : goal.look-returns-then-is_replaced
 look-returns-then-is_replaced t c =
-    gives_copy _ _ _ _ _ c.requires _ c.expr_of-e.ensures _ c.before_of-b.ensures c.if-b-entry.false _ c.is_replaced.ensures c.if-is_replaced.true _ c.first_child-c.ensures _ (rw c.looked-t.ensures at c.look.ensures)
+    gives_copy _ _ _ _ _ (holds c.args.records.now c.args.lines.now c.requires.cached) c.requires _ c.expr-e.ensures _ c.before_of-b.ensures _ c.pick-hit.ensures c.in_default-hit.is _ c.is_replaced.ensures c.if-is_replaced.true _ c.first-c.ensures _ (rw c.looked-t.ensures at c.look.ensures)
 
 pub look-look_along-w-requires : goal.look-look_along-w-requires
 look-look_along-w-requires t c =
     let falls = c.decreases in (
-      omega (arith, falls, e_reach _ _ _ _ _ c.requires _ c.expr_of-e.ensures),
-      rw c.looked-t.ensures (along_asks _ _ _ _ _ c.requires _ c.expr_of-e.ensures _ c.before_of-b.ensures c.if-b-entry.false _ c.is_replaced.ensures c.if-is_replaced.false),
+      omega (arith, falls, e_reach _ _ _ _ _ (holds c.args.records.now c.args.lines.now c.requires.cached) c.requires _ c.expr-e.ensures),
+      rw c.looked-t.ensures (along_asks _ _ _ _ _ (holds c.args.records.now c.args.lines.now c.requires.cached) c.requires _ c.expr-e.ensures _ c.before_of-b.ensures _ c.pick-hit.ensures c.in_default-hit.is _ c.is_replaced.ensures c.if-is_replaced.false),
     )
 
 pub look-look_again-u-requires : goal.look-look_again-u-requires
@@ -55,8 +66,8 @@ look-look_again-u-requires t c =
     let walk = rw c.looked-t.ensures at c.look_along-w.ensures in
     let field = c.field-field.ensures ∙ ap (λ (w : Own). w.field) c.looked-t.ensures in
     let v = rw field at c.of-v.ensures in (
-      omega (arith, falls, again_falls _ _ _ _ _ c.requires _ c.expr_of-e.ensures _ c.before_of-b.ensures c.if-b-entry.false _ c.is_replaced.ensures c.if-is_replaced.false _ walk c.of-v.result v),
-      again_asks _ _ _ _ _ c.requires _ c.expr_of-e.ensures _ c.before_of-b.ensures c.if-b-entry.false _ c.is_replaced.ensures c.if-is_replaced.false _ walk c.of-v.result v,
+      omega (arith, falls, again_falls _ _ _ _ _ (holds c.args.records.now c.args.lines.now c.requires.cached) c.requires _ c.expr-e.ensures _ c.before_of-b.ensures _ c.pick-hit.ensures c.in_default-hit.is _ c.is_replaced.ensures c.if-is_replaced.false _ walk c.of-v.result v),
+      again_asks _ _ _ _ _ (holds c.args.records.now c.args.lines.now c.requires.cached) c.requires _ c.expr-e.ensures _ c.before_of-b.ensures _ c.pick-hit.ensures c.in_default-hit.is _ c.is_replaced.ensures c.if-is_replaced.false _ walk c.of-v.result v,
     )
 
 pub look-returns : goal.look-returns
@@ -64,7 +75,7 @@ look-returns t c =
     let walk = rw c.looked-t.ensures at c.look_along-w.ensures in
     let field = c.field-field.ensures ∙ ap (λ (w : Own). w.field) c.looked-t.ensures in
     let v = rw field at c.of-v.ensures in
-    gives_whole _ _ _ _ _ c.requires _ c.expr_of-e.ensures _ c.before_of-b.ensures c.if-b-entry.false _ c.is_replaced.ensures c.if-is_replaced.false _ walk c.of-v.result v _ c.look_again-u.ensures _ field _ (c.look_ended.ensures _)
+    gives_whole _ _ _ _ _ (holds c.args.records.now c.args.lines.now c.requires.cached) c.requires _ c.expr-e.ensures _ c.before_of-b.ensures _ c.pick-hit.ensures c.in_default-hit.is _ c.is_replaced.ensures c.if-is_replaced.false _ walk c.of-v.result v _ c.look_again-u.ensures _ field _ c.look_ended.ensures
 
 pub look_again-returns-then-v : goal.look_again-returns-then-v
 look_again-returns-then-v t c =
@@ -79,13 +90,13 @@ look_along-loop-i-init t c = rw c.new-seen.ensures (reached_none _ _ _ _ _)
 pub look_along-look-u-requires : goal.look_along-look-u-requires
 look_along-look-u-requires t c =
     let falls = c.decreases in (
-      omega (arith, falls, child_falls _ _ _ _ _ c.requires _ _ _ c.loop-i.invariant c.loop-i-test.true _ _ c.child_of-c.ensures c.mode.ensures),
-      child_asks _ _ _ _ _ c.requires _ _ _ c.loop-i.invariant c.loop-i-test.true _ _ c.child_of-c.ensures c.mode.ensures,
+      omega (arith, falls, child_falls _ _ _ _ _ (holds c.args.records.now c.args.lines.now c.requires.cached) c.requires _ _ _ c.loop-i.invariant c.loop-i-test.true _ _ c.child_of-c.ensures c.mode.ensures),
+      child_asks _ _ _ _ _ (holds c.args.records.now c.args.lines.now c.requires.cached) c.requires _ _ _ c.loop-i.invariant c.loop-i-test.true _ _ c.child_of-c.ensures c.mode.ensures,
     )
 
 pub look_along-loop-i-preserved : goal.look_along-loop-i-preserved
 look_along-loop-i-preserved t c =
-    reached_more _ _ _ _ _ c.requires _ _ _ c.loop-i.invariant c.loop-i-test.true _ _ c.child_of-c.ensures c.mode.ensures _ c.look-u.ensures _ c.answer.ensures _ c.add-seen.ensures _ c.enter_struct-t.ensures
+    reached_more _ _ _ _ _ (holds c.args.records.now c.args.lines.now c.requires.cached) c.requires _ _ _ c.loop-i.invariant c.loop-i-test.true _ _ c.child_of-c.ensures c.mode.ensures _ c.look-u.ensures _ c.answer.ensures _ c.add-seen.ensures _ c.enter_struct-t.ensures
 
 pub look_along-returns : goal.look_along-returns
-look_along-returns t c = along_gives _ _ _ _ _ c.requires _ _ _ c.loop-i.invariant c.loop-i-test.false
+look_along-returns t c = along_gives _ _ _ _ _ (holds c.args.records.now c.args.lines.now c.requires.cached) c.requires _ _ _ c.loop-i.invariant c.loop-i-test.false

@@ -1,22 +1,19 @@
 -- The number of the base record falls to a child, and where a child's record takes the place of its parent's; along the children,
 -- those left fall.
 use Rattle.std.specs.Prelude.{if◌then◌else◌}
-use Rattle.std.proofs.Common.{◌+◌, ◌-◌, ◌*◌, get_or}
+use Rattle.std.proofs.Common.{◌+◌, ◌*◌, get_or}
 use Rattle.expr.specs.State.{state}
 use Rattle.expr.specs.Contract.{reach, Reached}
 use Rattle.expr.proofs.look.+look_look_again_look_along.Given as goal
 
 abbrev pub decreases-look : goal.decreases-look
-decreases-look l = get_or l.line.now l.p 0 * 2 + 1
+decreases-look l = get_or l.lines.now.holds l.p 0 * 2 + 1
 
 abbrev pub decreases-look_again : goal.decreases-look_again
-decreases-look_again l = if l.v.again then get_or l.line.now l.node 0 * 2 + 2 else 0
+decreases-look_again l = if l.v.again then get_or l.lines.now.holds l.node 0 * 2 + 2 else 0
 
 abbrev pub decreases-look_along : goal.decreases-look_along
 decreases-look_along l = reach l.e * 2
 
 abbrev pub invariant-look_along-loop-i : goal.invariant-look_along-loop-i
-invariant-look_along-loop-i l = Reached l.recs l.n (state l.initial.line l.initial.off l.initial.cache l.initial.t) l.e l.b (state l.line l.off l.cache l.t) l.seen l.i
-
-abbrev pub decreases-look_along-loop-i : goal.decreases-look_along-loop-i
-decreases-look_along-loop-i l = l.e.count - l.i
+invariant-look_along-loop-i l = Reached l.records.bytes l.records.count (state l.initial.lines.holds l.initial.lines.off l.initial.cache l.initial.t) l.e l.b (state l.lines.holds l.lines.off l.cache l.t) l.seen l.i

@@ -1,35 +1,28 @@
-use Prim.Native.Nat.{ℕ, ◌-◌}
-use native.Mathlib.Omega.{arith}
-use lib.ListN.{replicate, length-replicate}
-use Rattle.ir_graph.proofs.FirstPass.{begins, hits_ended, turns_ended, noted_ended, turn, popping_next}
+use Rattle.std.proofs.Common.{rules, arith, [], ◌∷◌, length-append}
+use Rattle.ir_graph.proofs.FirstPass.{begins, hits_ended, noted_ended, turn, popping_next}
 use Rattle.ir_graph.proofs.hits.count_hits.Goals as goal
 
-pub loop-len-init : goal.loop-len-init
-loop-len-init c =
-    begins c.args.steps.now c.args.n c.requires.n_bound c.requires.plan c.requires.by_index
-    _ (replicate 288 0) c.args.hits.now c.args.met.now _ (length-replicate {A = ℕ} 288 0)
-    c.size_32.ensures c.size_288.ensures c.requires.by_index_2 c.push_roots-len.ensures
+pub loop-top-init : goal.loop-top-init
+loop-top-init c = rw c.clear.ensures (begins c.args.steps.now c.requires.plan (search rules) c.requires.no_hits c.push_roots.ensures)
 
-pub bounds-met-turns : goal.bounds-met-turns
-bounds-met-turns c = let t = turn c.args.steps.now c.args.n c.requires.n_bound c.requires.plan c.requires.by_index c.loop-len.stack c.loop-len.hits c.loop-len.met c.loop-len.len c.loop-len.turns (c.loop-len.len - 1) c.loop-len.invariant (omega arith) in omega (arith, t.few)
+pub push-requires : goal.push-requires
+push-requires c = let t = turn c.args.steps.now c.requires.plan c.pop.new.self c.in-Some.top c.loop-top.invariant c.in-Some.ensures in omega (arith, t.few)
 
-pub overflow_cast-top : goal.overflow_cast-top
-overflow_cast-top c = let t = turn c.args.steps.now c.args.n c.requires.n_bound c.requires.plan c.requires.by_index c.loop-len.stack c.loop-len.hits c.loop-len.met c.loop-len.len c.loop-len.turns (c.loop-len.len - 1) c.loop-len.invariant (omega arith) in omega (arith, t.there, c.requires.n_bound)
+pub meet-requires : goal.meet-requires
+meet-requires c =
+    let t = turn c.args.steps.now c.requires.plan c.pop.new.self c.in-Some.top c.loop-top.invariant c.in-Some.ensures in
+    rw c.from.ensures (record { i_bound = t.line; step_formed = t.formed; hit_fits = t.hit; room = t.room })
 
-pub meet-len-requires : goal.meet-len-requires
-meet-len-requires c = let t = turn c.args.steps.now c.args.n c.requires.n_bound c.requires.plan c.requires.by_index c.loop-len.stack c.loop-len.hits c.loop-len.met c.loop-len.len c.loop-len.turns (c.loop-len.len - 1) c.loop-len.invariant (omega arith) in
-    record { i_bound = omega (arith, t.there, c.requires.n_bound); step_formed = t.formed; i_bound_2 = t.hit; i_bound_3 = t.room }
+pub loop-top-smaller : goal.loop-top-smaller
+loop-top-smaller c =
+    let t = turn c.args.steps.now c.requires.plan c.pop.new.self c.in-Some.top c.loop-top.invariant c.in-Some.ensures in
+    rw c.push.ensures (omega (arith, t.left, length-append c.loop-top.met (c.in-Some.top ∷ [])))
 
-pub overflow_add-turns : goal.overflow_add-turns
-overflow_add-turns c = let t = turn c.args.steps.now c.args.n c.requires.n_bound c.requires.plan c.requires.by_index c.loop-len.stack c.loop-len.hits c.loop-len.met c.loop-len.len c.loop-len.turns (c.loop-len.len - 1) c.loop-len.invariant (omega arith) in omega (arith, t.few)
-
-pub loop-len-smaller : goal.loop-len-smaller
-loop-len-smaller c = let t = turn c.args.steps.now c.args.n c.requires.n_bound c.requires.plan c.requires.by_index c.loop-len.stack c.loop-len.hits c.loop-len.met c.loop-len.len c.loop-len.turns (c.loop-len.len - 1) c.loop-len.invariant (omega arith) in omega (arith, t.left)
-
-pub loop-len-preserved : goal.loop-len-preserved
-loop-len-preserved c =
-    popping_next c.args.steps.now c.args.n c.requires.n_bound c.requires.plan c.requires.by_index
-    c.loop-len.stack c.loop-len.hits c.loop-len.met c.loop-len.len c.loop-len.turns (c.loop-len.len - 1) c.loop-len.invariant (omega arith) _ _ _ c.meet-len.ensures.pushed c.meet-len.ensures.hits_after
+pub loop-top-preserved : goal.loop-top-preserved
+loop-top-preserved c =
+    rw c.push.ensures
+    (popping_next c.args.steps.now c.requires.plan c.pop.new.self c.in-Some.top c.loop-top.invariant c.in-Some.ensures
+    (rw c.from.ensures at c.meet.ensures.pushed) (rw c.from.ensures at c.meet.ensures.hit_counted))
 
 pub returns : goal.returns
-returns c = record { hits_counted = hits_ended c.args.steps.now c.args.n c.requires.n_bound c.requires.plan c.requires.by_index c.loop-len.stack c.loop-len.hits c.loop-len.met c.loop-len.len c.loop-len.turns c.loop-len.invariant (omega arith); value = turns_ended c.args.steps.now c.args.n c.requires.n_bound c.requires.plan c.requires.by_index c.loop-len.stack c.loop-len.hits c.loop-len.met c.loop-len.len c.loop-len.turns c.loop-len.invariant (omega arith); met_noted = noted_ended c.args.steps.now c.args.n c.requires.n_bound c.requires.plan c.requires.by_index c.loop-len.stack c.loop-len.hits c.loop-len.met c.loop-len.len c.loop-len.turns c.loop-len.invariant (omega arith) }
+returns c = record { hits_counted = hits_ended c.args.steps.now c.requires.plan c.loop-top.invariant c.in_default.ensures.0; met_noted = noted_ended c.args.steps.now c.requires.plan c.loop-top.invariant c.in_default.ensures.0 }

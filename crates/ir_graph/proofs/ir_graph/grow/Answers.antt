@@ -1,53 +1,45 @@
-use native.Mathlib.Omega.{arith}
-use Rattle.ir_graph.proofs.Graphs.{placing, turn_at, places_left, pushed_there, placing_next, built}
+use Rattle.std.proofs.Common.{rules, arith}
+use Rattle.plan.proofs.ListLaws.{part_from}
+use Rattle.ir_graph.proofs.Graphs.{placing, turn_at, places_left, few_pushed, pushed_there, placing_next, built}
 use Rattle.ir_graph.proofs.ir_graph.grow.Goals as goal
 
 pub loop-i-init : goal.loop-i-init
-loop-i-init c =
-    placing c.args.steps.now c.args.n c.requires.n_bound c.requires.plan c.requires.by_index
-    c.size_288.ensures c.size_544.ensures c.requires.by_index_2 c.requires.hits_counted c.push_roots-len.ensures
+loop-i-init c = placing c.args.steps.now c.requires.plan (search rules) c.requires.ends_empty c.requires.hits_counted c.push_roots.ensures
 
-pub bounds-places-i : goal.bounds-places-i
-bounds-places-i c = omega (arith, c.loop-i.invariant.growing.fits)
-
-pub overflow_cast-made : goal.overflow_cast-made
-overflow_cast-made c = omega (arith, (turn_at c.args.steps.now c.args.n c.requires.n_bound c.requires.plan c.requires.by_index c.loop-i.invariant c.loop-i-test.true).edges)
+pub overflow_cast-edges : goal.overflow_cast-edges
+overflow_cast-edges c = let t = turn_at c.args.steps.now c.requires.plan c.loop-i.invariant (omega arith) in omega (arith, t.edges)
 
 pub store_first_into-requires : goal.store_first_into-requires
-store_first_into-requires c = omega (arith, (turn_at c.args.steps.now c.args.n c.requires.n_bound c.requires.plan c.requires.by_index c.loop-i.invariant c.loop-i-test.true).there, c.requires.n_bound)
+store_first_into-requires c = let t = turn_at c.args.steps.now c.requires.plan c.loop-i.invariant (omega arith) in rw c.as_slice-list.ensures t.line
 
-pub overflow_cast-current : goal.overflow_cast-current
-overflow_cast-current c = omega (arith, (turn_at c.args.steps.now c.args.n c.requires.n_bound c.requires.plan c.requires.by_index c.loop-i.invariant c.loop-i-test.true).there, c.requires.n_bound)
+pub follow-requires : goal.follow-requires
+follow-requires c =
+    let t = turn_at c.args.steps.now c.requires.plan c.loop-i.invariant (omega arith) in
+    rw (c.from.ensures, c.as_slice-list.ensures) (record { i_bound = t.line; step_formed = t.formed; hit_left = t.hit; room = omega (arith, t.room) })
 
-pub follow-len-requires : goal.follow-len-requires
-follow-len-requires c = let t = turn_at c.args.steps.now c.args.n c.requires.n_bound c.requires.plan c.requires.by_index c.loop-i.invariant c.loop-i-test.true in
-    record { i_bound = omega (arith, t.there, c.requires.n_bound); step_formed = t.formed; bound = t.hit; i_bound_2 = omega (arith, t.places) }
-
-pub link-made-requires : goal.link-made-requires
-link-made-requires c = let t = turn_at c.args.steps.now c.args.n c.requires.n_bound c.requires.plan c.requires.by_index c.loop-i.invariant c.loop-i-test.true in
-    record {
-      inputs_from = record {
-        order = omega (arith, c.follow-len.ensures.pushed.len);
-        few = omega (arith, c.follow-len.ensures.pushed.len, t.few);
-        within = omega (arith, c.follow-len.ensures.pushed.len, t.few, t.places);
-      };
-      start_bound = omega (arith, c.follow-len.ensures.pushed.len, t.edges);
-      by_index = pushed_there c.args.steps.now c.args.n c.requires.n_bound c.requires.plan c.requires.by_index c.loop-i.invariant c.loop-i-test.true c.follow-len.ensures.pushed c.follow-len.ensures.hits_after;
-    }
-
-pub overflow_add-i : goal.overflow_add-i
-overflow_add-i c =
-    let t = turn_at c.args.steps.now c.args.n c.requires.n_bound c.requires.plan c.requires.by_index c.loop-i.invariant c.loop-i-test.true in
-    omega (arith, t.places, c.loop-i-test.true)
+pub link-requires : goal.link-requires
+link-requires c =
+    let t = turn_at c.args.steps.now c.requires.plan c.loop-i.invariant (omega arith) in
+    let q = rw (c.from.ensures, c.as_slice-list.ensures) at c.follow.ensures.followed in
+    let u = rw (c.from.ensures, c.as_slice-list.ensures) at c.follow.ensures.hit_used in
+    rw (part_from, c.as_slice.ensures, c.as_slice-list.ensures)
+    (record {
+      few_inputs = omega (arith, few_pushed c.args.steps.now c.requires.plan c.loop-i.invariant (omega arith) q u, t.few);
+      room = omega (arith, few_pushed c.args.steps.now c.requires.plan c.loop-i.invariant (omega arith) q u, t.edges);
+      inputs_there = pushed_there c.args.steps.now c.requires.plan c.loop-i.invariant (omega arith) q u;
+    })
 
 pub loop-i-smaller : goal.loop-i-smaller
-loop-i-smaller c =
-    omega (arith, places_left c.args.steps.now c.args.n c.requires.n_bound c.requires.plan c.requires.by_index c.loop-i.invariant c.loop-i-test.true)
+loop-i-smaller c = omega (arith, places_left c.args.steps.now c.requires.plan c.loop-i.invariant (omega arith))
 
 pub loop-i-preserved : goal.loop-i-preserved
 loop-i-preserved c =
-    placing_next c.args.steps.now c.args.n c.requires.n_bound c.requires.plan c.requires.by_index c.loop-i.invariant c.loop-i-test.true c.follow-len.ensures.pushed c.follow-len.ensures.hits_after c.store_first_into.ensures.by_index c.store_first_into.ensures.ends_after c.link-made.ensures
+    placing_next c.args.steps.now c.requires.plan c.loop-i.invariant (omega arith)
+    (rw (c.from.ensures, c.as_slice-list.ensures) at c.follow.ensures.followed)
+    (rw (c.from.ensures, c.as_slice-list.ensures) at c.follow.ensures.hit_used)
+    c.store_first_into.ensures.by_index
+    (rw c.as_slice-list.ensures at c.store_first_into.ensures.ends_after)
+    (rw (part_from, c.as_slice.ensures, c.as_slice-list.ensures) at c.link.ensures)
 
 pub returns : goal.returns
-returns c =
-    built c.args.steps.now c.args.n c.requires.n_bound c.requires.plan c.requires.by_index c.loop-i.invariant c.loop-i-test.false
+returns c = built c.args.steps.now c.requires.plan c.loop-i.invariant (omega arith)

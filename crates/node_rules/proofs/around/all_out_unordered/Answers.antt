@@ -3,13 +3,12 @@ use native.Mathlib.Omega.{arith}
 use Rattle.node_rules.proofs.around.all_out_unordered.Goals as goal
 
 pub loop-k-init : goal.loop-k-init
-loop-k-init c =
-    (omega arith, λ ends. loose_none ends c.args.edges.now c.args.len c.args.n)
+loop-k-init c = λ ends. loose_none ends c.args.edges.now.bytes c.args.edges.now.count c.args.n
 
 pub loop-k-preserved : goal.loop-k-preserved
 loop-k-preserved c =
-    (omega arith, λ ends. loose_next ends c.args.edges.now c.args.len c.args.n c.loop-k.k c.loop-k.r _ _ c.is_unordered.ensures (c.is_out_of.ensures ends) (c.loop-k.invariant.1 ends))
+    λ ends. loose_next ends c.args.edges.now.bytes c.args.edges.now.count c.args.n c.loop-k.k c.loop-k.all _ _ c.is_unordered.ensures (c.is_out_of.ensures ends) (c.loop-k.invariant ends)
 
 pub returns : goal.returns
 returns c =
-    λ ends. outs_are ends c.args.edges.now c.args.len c.args.n c.loop-k.k c.loop-k.r (omega (arith, c.loop-k.invariant.0, c.loop-k-test.false)) (c.loop-k.invariant.1 ends)
+    λ ends. outs_are ends c.args.edges.now.bytes c.args.edges.now.count c.args.n c.loop-k.k c.loop-k.all (omega arith) (c.loop-k.invariant ends)

@@ -1,12 +1,9 @@
-use mathlib.Core.Path.{sym, ◌∙◌}
+use mathlib.Core.Path.{◌≡◌, sym, ◌∙◌}
 use mathlib.Core.List.{[]}
 use Rattle.storage.specs.Edges.{stored_edge}
-use Rattle.node_rules.proofs.InEdges.{through_none, through_next, ends_here, ends_last}
+use Rattle.node_rules.proofs.InEdges.{through_next, ends_here, ends_last}
+use native.Mathlib.Omega.{arith}
 use Rattle.node_rules.proofs.around.in_edges_of.Goals as goal
-
-pub loop-to-init : goal.loop-to-init
-loop-to-init c =
-    (c.first_into-from.ensures, rw c.first_into-from.ensures (through_none c.args.ends.now c.args.len c.args.n c.requires.1))
 
 pub returns-then-consumer_of-n : goal.returns-then-consumer_of-n
 unfolding stored_edge
@@ -20,4 +17,5 @@ loop-to-preserved c =
 
 pub returns : goal.returns
 returns c =
-    rw c.loop-to.invariant.0 (ends_last c.args.ends.now c.args.len c.args.n c.requires.1 c.loop-to.to c.loop-to.invariant.1 c.loop-to-test.false)
+    let end : c.loop-to.to ≡ c.args.len = omega arith in
+    rw c.loop-to.invariant.0 (ends_last c.args.ends.now c.args.len c.args.n c.requires.1 c.args.len (rw end at c.loop-to.invariant.1) (omega arith))

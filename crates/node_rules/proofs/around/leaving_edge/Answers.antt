@@ -1,20 +1,25 @@
-use mathlib.Core.Path.{sym, ◌∙◌}
-use Rattle.node_rules.proofs.OutEdges.{leaves_start, leaves_here, leaves_later, none_leaves}
-use native.Mathlib.Omega.{arith}
+use Rattle.std.proofs.Common.{rules, arith, ◌≡◌, ◌<◌, ◌≤◌, List, ℕ, Bool, true, false, Option, None, Some, MatchOption}
+use Rattle.std.specs.Option.{unwrap_or}
+use Rattle.std.proofs.lemmas.Iterator.{first_from_Range}
+use Rattle.plan.specs.Visit.{is_out_of}
+use Rattle.claims.specs.Demand3.{leaving_among}
+use Rattle.storage.specs.Edges.{stored_edge, stored_edges}
+use Rattle.node_rules.proofs.OutEdges.{first_leaves, none_leaves}
 use Rattle.node_rules.proofs.around.leaving_edge.Goals as goal
 
-pub loop-k-init : goal.loop-k-init
-loop-k-init c =
-    (omega arith, λ ends. leaves_start ends c.args.edges.now c.args.len c.args.n)
+-- does edge k leave n?
+abbrev Leaves : List ℕ → ℕ → Bool → ℕ → Type 0
+Leaves edges n b k = (ends : List ℕ) → is_out_of n (stored_edge ends edges k) ≡ b
 
-pub returns-then-is_out_of : goal.returns-then-is_out_of
-returns-then-is_out_of c =
-    ((λ ends. leaves_here ends c.args.edges.now c.args.len c.args.n c.loop-k.k c.loop-k-test.true (sym (c.is_out_of.ensures ends) ∙ c.if-is_out_of.true) (c.loop-k.invariant.1 ends)), c.loop-k.invariant.0)
-
-pub loop-k-preserved : goal.loop-k-preserved
-loop-k-preserved c =
-    (omega arith, λ ends. leaves_later ends c.args.edges.now c.args.len c.args.n c.loop-k.k c.loop-k-test.true (sym (c.is_out_of.ensures ends) ∙ c.if-is_out_of.false) (c.loop-k.invariant.1 ends))
+-- what `find` finds
+leaving : (edges : List ℕ) (len n : ℕ) (r : Option ℕ)
+    → MatchOption r ((k : ℕ) → 0 ≤ k → k < len → Leaves edges n false k) (λ i. (0 ≤ i) × (i < len) × Leaves edges n true i × ((k : ℕ) → 0 ≤ k → k < i → Leaves edges n false k))
+    → ((ends : List ℕ) → unwrap_or r len ≡ leaving_among n (stored_edges ends edges len)) × (unwrap_or r len ≤ len)
+leaving edges len n None none = (λ ends. none_leaves ends edges len n (λ j h. none j (omega arith) h ends), omega arith)
+leaving edges len n (Some i) (a, h, here, before) = (λ ends. first_leaves ends edges len n i h (here ends) (λ j l. before j (omega arith) l ends), omega arith)
 
 pub returns : goal.returns
 returns c =
-    ((λ ends. none_leaves ends c.args.edges.now c.args.len c.args.n c.loop-k.k (omega (arith, c.loop-k.invariant.0, c.loop-k-test.false)) (c.loop-k.invariant.1 ends)), c.loop-k.invariant.0)
+    let leaves = Leaves c.args.edges.now.bytes c.args.n in
+    rw c.unwrap_or.ensures
+    (leaving _ _ _ _ (first_from_Range _ _ _ _ (leaves true) (leaves false) c.find.ensures.ran (λ x q called ends. search rules) (λ x q called. (search rules, λ ends. search rules))))

@@ -1,32 +1,34 @@
 use mathlib.Core.Path.{◌≡◌}
-use mathlib.Core.Logic.{◌≢◌}
-use borrow.Author.Tests.{eq-eqb, ne_eqb}
-use Rattle.plan.specs.Kinds.{join_type, join_type_number}
+use mathlib.Core.Bool.{false}
+use Rattle.std.proofs.Common.{rules}
+use Rattle.plan.specs.declared.join.JoinType.{JoinType}
+use Rattle.plan.specs.declared.join.MaintainOrderJoin.{MaintainOrderJoin}
+use Rattle.plan.specs.Kinds.{same_join_type, same_maintain_order}
 use Rattle.node_rules.proofs.joins.join_rule.Goals as goal
-
-pub returns-then-how-eq3 : goal.returns-then-how-eq3
-returns-then-how-eq3 c =
-    let how : join_type_number (join_type c.args.s.a) ≡ 3 =
-    rw (← c.of_number.ensures, ← c.number-how.ensures) c.if-how-eq3.true in
-    rw (c.ruled.ensures, eq-eqb _ _ how)
 
 pub returns : goal.returns
 returns c =
-    let how : join_type_number (join_type c.args.s.a) ≢ 3 =
-    rw (← c.of_number.ensures, ← c.number-how.ensures) c.if-how-eq3.false in
+    let how = c.of_number-how.result in
+    let other : same_join_type how JoinType.AsOf ≡ false = search rules in
+    let none : c.eq-2.result ≡ same_maintain_order c.of_number-m.result MaintainOrderJoin.None = search rules in
+    let right : c.eq-3.result ≡ same_maintain_order c.pick-m1.result MaintainOrderJoin.Right = search rules in
+    let semi : c.eq-4.result ≡ same_join_type how JoinType.Semi = search rules in
+    let anti : c.eq-5.result ≡ same_join_type how JoinType.Anti = search rules in
+    let left : c.eq-6.result ≡ same_maintain_order c.pick-m2.result MaintainOrderJoin.Left = search rules in
     rw (
       c.ruled-2.ensures,
-      c.number-4.ensures,
-      c.kept_sides-m3.ensures,
+      c.from.ensures,
+      c.pick-m3.ensures,
       c.without_right.ensures,
-      c.number-3.ensures,
-      c.kept_sides-m2.ensures,
+      left,
+      c.pick-m2.ensures,
       c.without_left.ensures,
-      c.number-2.ensures,
-      c.kept_sides-m1.ensures,
-      c.number.ensures,
+      right,
+      c.pick-m1.ensures,
+      none,
+      semi,
+      anti,
       c.of_number-m.ensures,
-      c.number-how.ensures,
-      c.of_number.ensures,
-      ne_eqb _ _ how,
+      ← c.of_number-how.ensures,
+      other,
     )

@@ -1,38 +1,69 @@
 use mathlib.Core.Path.{sym, ap, ◌∙◌}
 use mathlib.Core.List.{map}
+use Prim.Native.Nat.{ℕ}
+use native.Mathlib.Omega.{arith}
+use lib.ListN.{get_or}
+use Rattle.plan.specs.Sheet.{step_at}
 use Rattle.plan.specs.Graph.{Edge}
-use Rattle.storage.specs.Edges.{producer_of, stored_edges}
+use Rattle.storage.specs.Edges.{producer_of}
+use Rattle.storage.specs.Held.{steps_in, edges_in}
+use Rattle.storage.proofs.Laws.{length_steps}
 use Rattle.node_rules.specs.Held.{cut_off}
 use Rattle.node_rules.proofs.EdgeChanges.{both_relinked}
-use Rattle.node_rules.proofs.UnlinkLaws.{edge_there, edge_is}
-use native.Mathlib.Omega.{arith}
+use Rattle.node_rules.proofs.UnlinkLaws.{edge_there, edge_is, entry_is, entry_there}
 use Rattle.node_rules.proofs.unlink.unlink_node.Goals as goal
 
--- by `edge_there`, the edge leaving n is one
-pub consumer_of-c-requires : goal.consumer_of-c-requires
-consumer_of-c-requires c = omega (arith, edge_there c.args.ends.now c.args.edges.now c.args.size.edges c.args.n c.leaving_edge-k.result (c.leaving_edge-k.ensures.0 c.args.ends.now) c.requires.unlinkable.unordered, c.requires.edges_held.0.few)
+pub leaving_edge-leaving-requires : goal.leaving_edge-leaving-requires
+leaving_edge-leaving-requires c =
+    let s = c.args.steps.now in
+    omega (arith, c.requires.unlinkable.step, length_steps s.bytes s.count, s.held.few)
 
-pub slot_of-s-requires : goal.slot_of-s-requires
-slot_of-s-requires c = omega (arith, edge_there c.args.ends.now c.args.edges.now c.args.size.edges c.args.n c.leaving_edge-k.result (c.leaving_edge-k.ensures.0 c.args.ends.now) c.requires.unlinkable.unordered, c.requires.edges_held.0.few)
+-- by `edge_there`, the edge leaving n is one
+pub consumer_of-requires : goal.consumer_of-requires
+consumer_of-requires c =
+    let e = c.args.edges.now in
+    omega (arith, edge_there c.args.ends.now e.bytes e.count c.args.n c.leaving_edge-leaving.result (c.leaving_edge-leaving.ensures.0 c.args.ends.now) c.requires.unlinkable.unordered, e.few)
+
+pub slot_of-requires : goal.slot_of-requires
+slot_of-requires c =
+    let e = c.args.edges.now in
+    omega (arith, edge_there c.args.ends.now e.bytes e.count c.args.n c.leaving_edge-leaving.result (c.leaving_edge-leaving.ensures.0 c.args.ends.now) c.requires.unlinkable.unordered, e.few)
+
+pub first_input-input-requires-clause-step : goal.first_input-input-requires-clause-step
+first_input-input-requires-clause-step c = let s = c.args.steps.now in rw c.from.ensures (omega (arith, c.requires.unlinkable.step, length_steps s.bytes s.count))
 
 pub store_input-requires : goal.store_input-requires
-store_input-requires c = let l = edge_there c.args.ends.now c.args.edges.now c.args.size.edges c.args.n c.leaving_edge-k.result (c.leaving_edge-k.ensures.0 c.args.ends.now) c.requires.unlinkable.unordered in
-    let consumer = c.consumer_of-c.ensures c.args.edges.now in
-    let slot = c.slot_of-s.ensures c.args.edges.now in
-    record { steps_held = c.requires.steps_held; i_lt_n = rw (consumer, slot) (c.requires.edges_held.0.there _ l, c.requires.edges_held.0.slots _ l) }
+store_input-requires c =
+    let s = c.args.steps.now in
+    let e = c.args.edges.now in
+    let k = c.leaving_edge-leaving.result in
+    let leaves = c.leaving_edge-leaving.ensures.0 c.args.ends.now in
+    let entry = sym (entry_is c.args.ends.now e.bytes e.count c.args.n k leaves c.requires.unlinkable.unordered) in
+    let there = entry_there c.args.ends.now e.bytes e.count c.args.n k leaves c.requires.unlinkable.unordered in
+    let consumer = c.from-consumer.ensures ∙ c.consumer_of.ensures e.bytes ∙ ap (λ (d : Edge). d.consumer) entry in
+    let slot = c.from-slot.ensures ∙ c.slot_of.ensures e.bytes ∙ ap (λ (d : Edge). d.slot) entry in
+    record {
+      step = rw consumer (omega (arith, c.requires.edges_held.0.there k there, length_steps s.bytes s.count));
+      slot = rw (consumer, slot) (c.requires.edges_held.0.slots k there);
+    }
 
-pub returns : goal.returns
-returns c = let edge = edge_is c.args.ends.now c.args.edges.now c.args.size.edges c.args.n c.leaving_edge-k.result (c.leaving_edge-k.ensures.0 c.args.ends.now) c.requires.unlinkable.unordered in
-    let consumer = ap (λ (d : Edge). d.consumer) edge ∙ sym (c.consumer_of-c.ensures c.args.edges.now) in
-    let slot = ap (λ (d : Edge). d.slot) edge ∙ sym (c.slot_of-s.ensures c.args.edges.now) in
-    let input = sym c.first_input-input.ensures in
-    let handed = c.hand_on.ensures.by_index c.args.ends.now in
-    let cut = c.cut_off.ensures.by_index c.args.ends.now c.args.size.edges c.args.n c.requires.edges_held.0.few c.requires.edges_held.1 in record {
-      unlinked = record {
-        steps = rw (consumer, slot, input) c.store_input.ensures.n_after;
-        edges =
-            rw (← (c.producer_into-from.ensures c.args.ends.now c.args.size.edges c.args.n c.requires.edges_held.1))
-            (cut ∙ ap (map (cut_off c.args.n)) handed ∙ both_relinked c.args.n (producer_of c.producer_into-from.result) (stored_edges c.args.ends.now c.args.edges.now c.args.size.edges));
-      };
-      steps_held_2 = (c.store_input.ensures.steps_held_2, c.cut_off.ensures.edges_len);
+pub hand_on-requires : goal.hand_on-requires
+hand_on-requires c =
+    let s = c.args.steps.now in
+    omega (arith, c.requires.unlinkable.step, length_steps s.bytes s.count, s.held.few)
+
+pub returns-clause-unlinked : goal.returns-clause-unlinked
+returns-clause-unlinked c =
+    let e = c.args.edges.now in
+    let edge = edge_is c.args.ends.now e.bytes e.count c.args.n c.leaving_edge-leaving.result (c.leaving_edge-leaving.ensures.0 c.args.ends.now) c.requires.unlinkable.unordered in
+    let consumer = ap (λ (d : Edge). d.consumer) edge ∙ sym (c.from-consumer.ensures ∙ c.consumer_of.ensures e.bytes) in
+    let slot = ap (λ (d : Edge). d.slot) edge ∙ sym (c.from-slot.ensures ∙ c.slot_of.ensures e.bytes) in
+    let input = sym (c.first_input-input.ensures ∙ ap (λ (i : ℕ). get_or (step_at (steps_in c.args.steps.now) i).inputs 0 0) c.from.ensures) in
+    let handed = c.hand_on.ensures.edges_after c.args.ends.now in
+    let cut = c.cut_off.ensures.edges_after c.args.ends.now c.args.n (rw c.hand_on.ensures.count c.requires.edges_held.1) in
+    record {
+      steps = rw (consumer, slot, input) c.store_input.ensures.stored;
+      edges =
+          rw (← (c.producer-from.ensures c.args.ends.now c.args.n c.requires.edges_held.1))
+          (cut ∙ ap (map (cut_off c.args.n)) handed ∙ both_relinked c.args.n (producer_of c.producer-from.result) (edges_in c.args.ends.now e));
     }

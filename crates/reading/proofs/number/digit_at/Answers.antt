@@ -1,9 +1,10 @@
+use mathlib.Core.Path.{sym}
+use borrow.Author.Tests.{ltb-true, ltb-false}
 use Rattle.reading.proofs.Numbers.{digit_here, digit_past}
-use native.Mathlib.Omega.{arith}
 use Rattle.reading.proofs.number.digit_at.Goals as goal
 
-pub returns-then-i-s : goal.returns-then-i-s
-returns-then-i-s c = (digit_here _ _ _ (omega arith) c.digit_of.ensures.0, omega arith)
+pub returns-in-Some : goal.returns-in-Some
+returns-in-Some c = digit_here _ _ _ (ltb-true _ _ (sym c.in-Some.ensures.lookup.0)) c.digit_of.ensures c.in-Some.ensures.lookup.1
 
-pub returns : goal.returns
-returns c = (digit_past _ _ (omega arith), omega arith)
+pub returns-in-None : goal.returns-in-None
+returns-in-None c = digit_past _ _ (ltb-false _ _ (sym c.in-None.ensures.lookup.0))

@@ -1,18 +1,20 @@
-use Rattle.reading.proofs.Numbers.{two_digits, no_third, too_long, too_large, three_digits}
 use native.Mathlib.Omega.{arith}
+use mathlib.Core.Path.{refl}
+use Rattle.reading.specs.declared.number.Byte.{Byte}
+use Rattle.reading.proofs.Numbers.{past_two, too_long, too_large, three_digits}
 use Rattle.reading.proofs.number.read_long.Goals as goal
 
-pub returns-then-c-eq10 : goal.returns-then-c-eq10
-returns-then-c-eq10 c = two_digits _ _ c.requires.first _ c.requires.second (omega arith) (omega arith) (omega arith) _ c.digit_at-c.ensures.0 (omega arith)
+pub returns-in-End : goal.returns-in-End
+returns-in-End c = past_two _ _ _ c.requires Byte.End _ c.in-End.ensures refl
 
-pub returns-then-c-gt10 : goal.returns-then-c-gt10
-returns-then-c-gt10 c = no_third _ _ c.requires.first _ c.requires.second (omega arith) (omega arith) (omega arith) _ c.digit_at-c.ensures.0 (omega arith)
+pub returns-in-End-Ok : goal.returns-in-End-Ok
+returns-in-End-Ok c = three_digits _ _ _ c.requires c.in-Digit.c c.in-Digit.ensures c.in-End-Ok.ensures _ (omega arith) c.in-End-Ok.value c.in-End-Ok.ensures'.0 c.in-End-Ok.ensures'.1
 
-pub returns-then-d-ne10 : goal.returns-then-d-ne10
-returns-then-d-ne10 c = too_long _ _ c.requires.first _ c.requires.second (omega arith) (omega arith) (omega arith) _ c.digit_at-c.ensures.0 (omega arith) _ c.digit_at-d.ensures.0 (λ e. omega arith)
+pub returns-in_default : goal.returns-in_default
+returns-in_default c = too_large _ _ _ c.requires c.in-Digit.c c.in-Digit.ensures c.in_default.ensures _ (omega arith) c.in_default.ensures'
 
-pub returns-then-n-gt255 : goal.returns-then-n-gt255
-returns-then-n-gt255 c = too_large _ _ c.requires.first _ c.requires.second (omega arith) (omega arith) (omega arith) _ c.digit_at-c.ensures.0 (omega arith) _ c.digit_at-d.ensures.0 (omega arith) (omega arith)
+pub returns-in_default-2 : goal.returns-in_default-2
+returns-in_default-2 c = too_long _ _ _ c.requires c.in-Digit.c c.in-Digit.ensures _ c.digit_at-in-Digit.ensures c.in_default.not-End-0
 
-pub returns : goal.returns
-returns c = three_digits _ _ c.requires.first _ c.requires.second (omega arith) (omega arith) (omega arith) _ c.digit_at-c.ensures.0 (omega arith) _ c.digit_at-d.ensures.0 _ (omega arith) (omega arith) (omega arith)
+pub returns-in-Other : goal.returns-in-Other
+returns-in-Other c = past_two _ _ _ c.requires Byte.Other _ c.in-Other.ensures refl

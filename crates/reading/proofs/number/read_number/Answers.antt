@@ -1,15 +1,27 @@
-use Rattle.reading.proofs.Numbers.{no_first, one_digit, no_second, leading_zero}
 use native.Mathlib.Omega.{arith}
+use mathlib.Core.Path.{refl}
+use Rattle.reading.specs.declared.number.Byte.{Byte}
+use Rattle.reading.proofs.Numbers.{no_digit, told_by, leading_zero, digit_small}
 use Rattle.reading.proofs.number.read_number.Goals as goal
 
-pub returns-then-a-ge10 : goal.returns-then-a-ge10
-returns-then-a-ge10 c = no_first _ _ c.digit_at-a.ensures.0 (omega arith)
+pub returns-in_default : goal.returns-in_default
+returns-in_default c = no_digit _ _ c.digit_at.ensures c.in_default.not-Digit
 
-pub returns-then-b-eq10 : goal.returns-then-b-eq10
-returns-then-b-eq10 c = one_digit _ _ c.digit_at-a.ensures.0 _ c.digit_at-b.ensures.0 (omega arith) (omega arith)
+pub read_long-requires : goal.read_long-requires
+read_long-requires c =
+    record {
+      first = c.in-Digit.ensures;
+      second = c.in-Digit-digit_at.ensures;
+      not_zero = omega arith;
+      first_digit = digit_small _ _ _ c.in-Digit.ensures;
+      second_digit = digit_small _ _ _ c.in-Digit-digit_at.ensures;
+    }
 
-pub returns-then-b-gt10 : goal.returns-then-b-gt10
-returns-then-b-gt10 c = no_second _ _ c.digit_at-a.ensures.0 _ c.digit_at-b.ensures.0 (omega arith) (omega arith)
+pub returns-in-End : goal.returns-in-End
+returns-in-End c = told_by _ (Byte.Digit c.in-Digit.a) Byte.End _ _ c.in-Digit.ensures c.in-End.ensures refl refl
 
-pub returns-then-a-eq0 : goal.returns-then-a-eq0
-returns-then-a-eq0 c = leading_zero _ _ c.digit_at-a.ensures.0 _ c.digit_at-b.ensures.0 (omega arith) (omega arith) (omega arith)
+pub returns-in-Digit-2 : goal.returns-in-Digit-2
+returns-in-Digit-2 c = leading_zero _ _ _ c.in-Digit.ensures c.in-Digit-digit_at.ensures c.if-a-ne0.false
+
+pub returns-in-Digit-2-2 : goal.returns-in-Digit-2-2
+returns-in-Digit-2-2 c = told_by _ (Byte.Digit c.in-Digit.a) Byte.Other _ _ c.in-Digit.ensures c.in-Digit-2.ensures refl refl

@@ -1,5 +1,9 @@
-use Rattle.reading.proofs.Refers.{children_found}
+use mathlib.Core.Path.{ap, ◌∙◌}
+use lib.Dec.{ltb}
+use Rattle.plan.specs.Lists.{all?}
+use Rattle.plan.specs.Faults.{children_earlier}
 use Rattle.reading.proofs.references.children_earlier.Goals as goal
 
 pub returns : goal.returns
-returns c = children_found _ _ _ _ c.wide-n.ensures.0 c.all_below.ensures
+unfolding children_earlier
+returns c = c.all_below.ensures ∙ ap (all? (λ q. ltb q c.args.i)) c.children_of.ensures

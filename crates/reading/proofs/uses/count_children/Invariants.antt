@@ -1,11 +1,7 @@
-use Prim.Native.Nat.{◌-◌, ◌≤◌}
 use Rattle.storage.specs.Stored.{stored_exprs}
 use Rattle.reading.specs.Uses.{all_children}
 use Rattle.reading.proofs.Names.{Onward}
 use Rattle.reading.proofs.uses.count_children.Given as goal
 
 abbrev pub invariant-loop-i : goal.invariant-loop-i
-invariant-loop-i l = (l.i ≤ l.n) × Onward l.initial.counts l.counts (all_children (stored_exprs l.exprs l.i))
-
-abbrev pub decreases-loop-i : goal.decreases-loop-i
-decreases-loop-i l = l.n - l.i
+invariant-loop-i l = Onward l.initial.counts l.counts (all_children (stored_exprs l.exprs l.i))

@@ -1,11 +1,7 @@
-use Prim.Native.Nat.{◌-◌, ◌≤◌}
-use Rattle.plan.specs.Faults.{cache_ids}
 use Rattle.storage.specs.Stored.{stored_steps}
+use Rattle.plan.specs.Faults.{cache_ids}
 use Rattle.reading.proofs.Names.{Onward}
 use Rattle.reading.proofs.uses.count_ids.Given as goal
 
 abbrev pub invariant-loop-i : goal.invariant-loop-i
-invariant-loop-i l = (l.i ≤ l.n) × Onward l.initial.counts l.counts (cache_ids (stored_steps l.steps l.i))
-
-abbrev pub decreases-loop-i : goal.decreases-loop-i
-decreases-loop-i l = l.n - l.i
+invariant-loop-i l = Onward l.initial.counts l.counts (cache_ids (stored_steps l.steps l.i))

@@ -1,6 +1,6 @@
 use mathlib.Core.Path.{◌≡◌}
 use mathlib.Core.List.{List, map}
-use Prim.Native.Nat.{ℕ, ◌-◌, ◌≤◌}
+use Prim.Native.Nat.{ℕ}
 use Rattle.plan.specs.Lists.{numbered}
 use Rattle.plan.specs.Faults.{first_fault}
 use Rattle.storage.specs.Stored.{stored_step, stored_steps}
@@ -9,7 +9,4 @@ use Rattle.reading.proofs.Scans.{faults_from}
 use Rattle.reading.proofs.uses.first_step_fault.Given as goal
 
 abbrev pub invariant-loop-i : goal.invariant-loop-i
-invariant-loop-i l = (l.i ≤ l.n) × ((names : List ℕ) → Counted l.counts names → first_fault (map (step_fault_in names) (numbered 0 (stored_steps l.steps l.n))) ≡ faults_from (step_fault_in names) (stored_step l.steps) l.n l.i)
-
-abbrev pub decreases-loop-i : goal.decreases-loop-i
-decreases-loop-i l = l.n - l.i
+invariant-loop-i l = (names : List ℕ) → Counted l.counts names → first_fault (map (step_fault_in names) (numbered 0 (stored_steps l.steps l.n))) ≡ faults_from (step_fault_in names) (stored_step l.steps) l.n l.i

@@ -1,54 +1,70 @@
-use mathlib.Core.Path.{◌∙◌, ap}
+use mathlib.Core.Path.{refl, ◌∙◌, ap}
 use mathlib.Core.List.{[]}
 use Prim.Native.Nat.{◌<◌}
 use native.Mathlib.Omega.{arith}
 use lib.ListN.{length}
 use Rattle.plan.specs.Sheet.{step_at}
+use Rattle.plan.specs.Refusals.{refusal_number}
 use Rattle.plan.specs.Tally.{visit_more}
-use Rattle.storage.specs.Stored.{arena_of, stored_steps}
-use Rattle.storage.specs.Edges.{stored_edges}
+use Rattle.std.proofs.lemmas.Result.{err_from_is_err_and}
 use Rattle.storage.proofs.Laws.{length_steps, length_arena}
-use Rattle.simplify_ordering.specs.Run.{run_of}
-use Rattle.simplify_ordering.proofs.VisitLaws.{listed_of, stops, settle_refused, settle_done, visit_fits}
+use Rattle.storage.specs.Held.{arena_in, steps_in, edges_in}
+use Rattle.simplify_ordering.specs.Held.{run_of}
+use Rattle.simplify_ordering.proofs.VisitLaws.{not_zero, listed_of, stops, settle_refused, settle_done, visit_fits}
 use Rattle.simplify_ordering.proofs.visit.settle.Goals as goal
 
-pub looks_of-l-requires : goal.looks_of-l-requires
-looks_of-l-requires c = let (held, found) = c.requires.run_held in
-    let r = run_of c.args.recs.now c.args.line.now c.args.off.now c.args.exprs c.args.steps.now c.args.ends.now c.args.edges.now c.args.size [] [] c.args.tally in record { steps_held = (held.steps_held, found.there); arena_held = (held.arena, found.options_are); by_index = (λ q m. omega (arith, c.requires.settle_asks.aggs q m, length_arena c.args.recs.now c.args.line.now c.args.off.now c.args.exprs)); listed = listed_of c.args.v.node r c.args.v.around found.around_is c.requires.settle_asks.listed }
+pub looks_of-o-requires-clause-earlier : goal.looks_of-o-requires-clause-earlier
+looks_of-o-requires-clause-earlier c =
+    let a = c.args.run.now.arena in
+    λ q m. omega (arith, c.requires.asks.aggs q (rw c.from-i.ensures at m), length_arena a.records.bytes a.lines.holds a.lines.off a.records.count)
 
-pub settle_by_rule-k-requires : goal.settle_by_rule-k-requires
-settle_by_rule-k-requires c =
-    let (held, found) = c.requires.run_held in
-    record { steps_held = c.looks_of-l.ensures.steps_held; there = found.there; few = held.few; bytes = held.bytes; run = found.run }
+pub looks_of-o-requires-clause-listed : goal.looks_of-o-requires-clause-listed
+looks_of-o-requires-clause-listed c =
+    rw c.from-i.ensures (listed_of c.args.v.node (run_of c.args.run.now c.args.ends.now [] []) c.args.v.around c.requires.finds.around_is c.requires.asks.listed)
 
-pub returns-then-k-ne0 : goal.returns-then-k-ne0
-returns-then-k-ne0 c = let ps = stored_steps c.args.steps.now c.args.size.steps in
-    let ds = stored_edges c.args.ends.now c.args.edges.now c.args.size.edges in
-    let es = arena_of c.args.recs.now c.args.line.now c.args.off.now c.args.exprs in
-    let here : c.args.v.node < length ps = omega (arith, c.requires.run_held.1.there, length_steps c.args.steps.now c.args.size.steps) in
-    let g = rw c.requires.run_held.1.around_is at c.looks_of-l.ensures in
-    let kept = c.settle_by_rule-k.ensures.steps_unchanged c.if-k-ne0.true in record {
-      comes = record {
-        outcome = λ back removed. settle_refused es ps ds c.args.v c.args.tally here c.requires.run_held.1.options_are c.requires.run_held.1.around_is _ g.steps_are c.looks_of-l.result.observable g.observable c.settle_by_rule-k.result c.settle_by_rule-k.ensures.value back removed c.if-k-ne0.true;
-        stop = λ back removed. rw (kept.0, kept.1) (stops es ps ds c.args.v c.args.tally here c.requires.run_held.1.options_are c.requires.run_held.1.around_is _ g.steps_are _ _ g.arena g.tally_is back removed);
-      };
-      run_held_2 = record { arena = g.held; steps_held = c.settle_by_rule-k.ensures.steps_held.0; few = c.requires.run_held.0.few; bytes = c.settle_by_rule-k.ensures.steps_held.1 };
-    }
+-- the looks, as the definition has them
+pub returns-in_err-settle_by_rule : goal.returns-in_err-settle_by_rule
+returns-in_err-settle_by_rule c =
+    let r = c.args.run.now in
+    let es = arena_in r.arena in
+    let ps = steps_in r.steps in
+    let ds = edges_in c.args.ends.now r.edges in
+    let f = c.requires.finds in
+    let here : c.args.v.node < length ps = omega (arith, f.there, length_steps r.steps.bytes r.steps.count) in
+    let g = rw (c.from-i.ensures, f.around_is) at c.looks_of-o.ensures.looked in
+    let e = c.in_err-settle_by_rule.field-0.0 in
+    let k = c.in_err-settle_by_rule.ensures in
+    let p = err_from_is_err_and c.from_residual.result c.from_residual.ensures.1 in
+    rw (p.1, p.2)
+    (record {
+      comes =
+          record {
+            outcome = λ back removed. settle_refused es ps ds c.args.v r.tally here f.options_are f.around_is _ g.steps_are c.looks_of-o.result g.observable (refusal_number e) k.fault back removed (not_zero e);
+            stop = λ back removed. rw (k.unchanged.0, k.unchanged.1, k.counts.0, k.counts.1) (stops es ps ds c.args.v r.tally here f.options_are f.around_is _ g.steps_are _ _ g.arena g.tally_is back removed);
+          };
+      same_size = (k.counts.0 ∙ c.looks_of-o.ensures.count, k.counts.1);
+    })
 
-pub visited-requires : goal.visited-requires
-visited-requires c =
-    visit_fits (step_at (stored_steps c.args.steps.now c.args.size.steps) c.args.v.node) c.args.v.around (arena_of c.args.recs.now c.args.line.now c.args.off.now c.args.exprs) c.args.tally c.looks_of-l.result.tally c.looks_of-l.ensures.tally_is c.requires.settle_asks.visits
+pub count_visit-requires : goal.count_visit-requires
+count_visit-requires c =
+    let r = c.args.run.now in
+    visit_fits (step_at (steps_in r.steps) c.args.v.node) c.args.v.around (arena_in r.arena) r.tally _ (rw c.from-i.ensures at c.looks_of-o.ensures.looked.tally_is) c.requires.asks.visits
 
 pub returns : goal.returns
-returns c = let ps = stored_steps c.args.steps.now c.args.size.steps in
-    let ds = stored_edges c.args.ends.now c.args.edges.now c.args.size.edges in
-    let es = arena_of c.args.recs.now c.args.line.now c.args.off.now c.args.exprs in
-    let here : c.args.v.node < length ps = omega (arith, c.requires.run_held.1.there, length_steps c.args.steps.now c.args.size.steps) in
-    let g = rw c.requires.run_held.1.around_is at c.looks_of-l.ensures in
+returns c =
+    let r = c.args.run.now in
+    let es = arena_in r.arena in
+    let ps = steps_in r.steps in
+    let ds = edges_in c.args.ends.now r.edges in
+    let f = c.requires.finds in
+    let here : c.args.v.node < length ps = omega (arith, f.there, length_steps r.steps.bytes r.steps.count) in
+    let g = rw (c.from-i.ensures, f.around_is) at c.looks_of-o.ensures.looked in
+    let k = c.in_ok-settle_by_rule.ensures in
     record {
-      comes = record {
-        outcome = λ back removed. settle_done es ps ds c.args.v c.args.tally here c.requires.run_held.1.options_are c.requires.run_held.1.around_is _ g.steps_are c.looks_of-l.result.observable g.observable c.settle_by_rule-k.result c.settle_by_rule-k.ensures.value back removed c.if-k-ne0.false _ _ _ _ g.arena (c.visited.ensures ∙ ap visit_more g.tally_is) (c.settle_by_rule-k.ensures.ruled_by c.if-k-ne0.false);
-        stop = λ back removed. tt;
-      };
-      run_held_2 = record { arena = g.held; steps_held = c.settle_by_rule-k.ensures.steps_held.0; few = c.requires.run_held.0.few; bytes = c.settle_by_rule-k.ensures.steps_held.1 };
+      comes =
+          record {
+            outcome = λ back removed. settle_done es ps ds c.args.v r.tally here f.options_are f.around_is _ g.steps_are c.looks_of-o.result g.observable 0 k.fault back removed refl _ _ _ _ g.arena (c.count_visit.ensures ∙ ap visit_more g.tally_is) k.ruled;
+            stop = λ back removed. tt;
+          };
+      same_size = (k.counts.0 ∙ c.looks_of-o.ensures.count, k.counts.1);
     }

@@ -1,13 +1,27 @@
-use Rattle.simplify_ordering.proofs.FetchLaws.{down_refused, down_stopped, up_asks, answered, answer_held}
 use mathlib.Core.Path.{refl}
+use Rattle.std.proofs.lemmas.Result.{err_from_is_err_and}
+use Rattle.simplify_ordering.specs.Held.{run_of}
+use Rattle.simplify_ordering.proofs.FetchLaws.{to_the_end, down_asks, down_stopped, up_asks, up_stopped, up_ended}
 use Rattle.simplify_ordering.proofs.walks.simplify_and_fetch_orderings.Goals as goal
 
-pub returns-then-down-ne0 : goal.returns-then-down-ne0
-returns-then-down-ne0 c = record { orderings_are = down_refused _ _ _ _ c.walk_down-down.ensures.down_gives c.if-down-ne0.true; orderings_held = record { exprs = c.walk_down-down.result.exprs; back = _; removed = _; tally = c.walk_down-down.result.tally; is = down_stopped _ _ _ _ c.walk_down-down.ensures.down_gives c.if-down-ne0.true; is_held = c.walk_down-down.ensures.run_held } }
+pub walk-requires-clause-asks : goal.walk-requires-clause-asks
+walk-requires-clause-asks c = down_asks c.args.run.now c.args.ends.now _ c.requires
 
-pub walk_back-up-requires : goal.walk_back-up-requires
-walk_back-up-requires c =
-    record { run_held = (c.walk_down-down.ensures.run_held, c.requires.rows); walk_asks = up_asks _ _ _ _ c.walk_down-down.ensures.down_gives c.requires.formed (λ b d. refl) c.if-down-ne0.false; goes_back = c.walk_down-down.ensures.goes_back }
+pub returns-in_err-down : goal.returns-in_err-down
+returns-in_err-down c =
+    let p = err_from_is_err_and c.from_residual.result c.from_residual.ensures.1 in
+    rw (p.1, p.2) (down_stopped c.args.run.now c.args.ends.now _ c.requires (run_of c.walk.new.run c.args.ends.now) _ c.in_err-down.ensures.gives)
+
+pub walk-requires-2-clause-asks : goal.walk-requires-2-clause-asks
+walk-requires-2-clause-asks c =
+    up_asks c.args.run.now c.args.ends.now _ c.requires (run_of c.walk.new.run c.args.ends.now) (λ back gone. refl) c.in_ok-down.down c.in_ok-down.ensures.gives
+
+pub returns-in_err-up : goal.returns-in_err-up
+returns-in_err-up c =
+    let p = err_from_is_err_and c.from_residual-in_err-up.result c.from_residual-in_err-up.ensures.1 in
+    rw (p.1, p.2)
+    (up_stopped c.args.run.now c.args.ends.now _ c.requires (run_of c.walk.new.run c.args.ends.now) (λ back gone. refl) c.in_ok-down.down c.in_ok-down.ensures.gives (run_of c.walk-2.new.run c.args.ends.now) _ (to_the_end c.in_ok-down.down) _ c.in_err-up.ensures.gives)
 
 pub returns : goal.returns
-returns c = record { orderings_are = answered _ _ _ _ c.walk_down-down.ensures.down_gives c.requires.formed (λ b d. refl) c.if-down-ne0.false _ c.walk_back-up.result _ c.walk_back-up.ensures.by_index.1 c.orderings_of.ensures; orderings_held = answer_held _ _ _ _ c.walk_down-down.ensures.down_gives c.requires.formed (λ b d. refl) c.if-down-ne0.false _ c.walk_back-up.result _ c.walk_back-up.ensures.by_index.1 _ c.walk_back-up.ensures.run_held_2 c.orderings_of.ensures }
+returns c =
+    up_ended c.args.run.now c.args.ends.now _ c.requires (run_of c.walk.new.run c.args.ends.now) (λ back gone. refl) c.in_ok-down.down c.in_ok-down.ensures.gives (run_of c.walk-2.new.run c.args.ends.now) _ (to_the_end c.in_ok-down.down) c.in_ok-up.up c.in_ok-up.ensures.gives

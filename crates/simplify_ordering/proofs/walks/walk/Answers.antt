@@ -1,42 +1,55 @@
+use mathlib.Core.Path.{refl, ◌∙◌}
 use native.Mathlib.Omega.{arith}
-use mathlib.Core.Path.{refl}
-use mathlib.Core.List.{List, []}
-use Prim.Native.Nat.{ℕ}
-use Rattle.plan.specs.Visit.{Run}
-use Rattle.simplify_ordering.specs.Run.{run_of}
-use Rattle.simplify_ordering.proofs.WalkLaws.{walking_begins, walking_stops, next_visitable, visitable_apart, has_room, walking_next, walked_all, goes_back}
+use lib.ListN.{drop_of_length-le}
+use Rattle.std.proofs.lemmas.Result.{err_from_is_err_and}
+use Rattle.simplify_ordering.specs.Held.{run_of}
+use Rattle.simplify_ordering.proofs.WalkLaws.{visitable_apart, walking_none, walking_ends, place_visitable, walking_stops, walking_more, at_place, noted_fits}
 use Rattle.simplify_ordering.proofs.walks.walk.Goals as goal
 
--- `before` is the run as the walk sets out, `after` the run as this turn finds it
-pub loop-i-init : goal.loop-i-init
-loop-i-init c =
-    let before : List ℕ → List ℕ → Run = λ b d. run_of c.args.recs.now c.args.line.now c.args.off.now c.args.w.exprs c.args.steps.now c.args.ends.now c.args.edges.now c.args.size b d c.args.w.tally in
-    let (g, o) = walking_begins _ before c.args.w c.args.back.now c.requires.walk_asks.1 c.requires.walk_asks.0 in
-    (c.requires.run_held.0, g, o)
+pub loop-n-init : goal.loop-n-init
+loop-n-init c =
+    record {
+      same_size = (refl, refl);
+      walking = walking_none _ (run_of c.args.run.now c.args.ends.now) c.requires.asks c.new-back.result c.new-back.ensures.none c.new-back.ensures.none_removed;
+      stored = omega (arith, c.new-back.ensures.none);
+      counted = omega (arith, c.new-back.ensures.none_removed);
+    }
 
-pub returns-then-r-ne0 : goal.returns-then-r-ne0
-returns-then-r-ne0 c = let before : List ℕ → List ℕ → Run = λ b d. run_of c.args.recs.now c.args.line.now c.args.off.now c.args.w.exprs c.args.steps.now c.args.ends.now c.args.edges.now c.args.size b d c.args.w.tally in
-    let after : List ℕ → List ℕ → Run = λ b d. run_of c.loop-i.recs c.loop-i.line c.loop-i.off c.loop-i.r.exprs c.loop-i.steps c.args.ends.now c.loop-i.edges c.args.size b d c.loop-i.r.tally in
-    record { walk_gives = walking_stops _ before c.args.w after c.loop-i.r _ _ c.loop-i.invariant.1 c.if-r-ne0.true; run_held_2 = c.loop-i.invariant.0; goes_back = goes_back _ _ c.loop-i.i c.args.w c.loop-i.r c.loop-i.invariant.2 }
+pub simplify_ir_node_orders-requires-clause-visitable : goal.simplify_ir_node_orders-requires-clause-visitable
+simplify_ir_node_orders-requires-clause-visitable c =
+    let before = run_of c.args.run.now c.args.ends.now in
+    let after = run_of c.loop-n.run c.args.ends.now in
+    let g = at_place c.args.list.now before after c.loop-n.back c.loop-n.n-index c.loop-n-test.true c.loop-n.invariant.walking in
+    visitable_apart _ _ _ refl refl refl refl (place_visitable c.args.list.now before after c.loop-n.back _ _ g)
 
-pub visit_place-r-requires : goal.visit_place-r-requires
-visit_place-r-requires c = let before : List ℕ → List ℕ → Run = λ b d. run_of c.args.recs.now c.args.line.now c.args.off.now c.args.w.exprs c.args.steps.now c.args.ends.now c.args.edges.now c.args.size b d c.args.w.tally in
-    let after : List ℕ → List ℕ → Run = λ b d. run_of c.loop-i.recs c.loop-i.line c.loop-i.off c.loop-i.r.exprs c.loop-i.steps c.args.ends.now c.loop-i.edges c.args.size b d c.loop-i.r.tally in
-    let (b, d, v) = next_visitable _ before c.args.w after c.loop-i.r c.loop-i.back c.loop-i.i c.loop-i-test.true c.loop-i.invariant.1 c.loop-i.invariant.2 c.if-r-ne0.false in
-    let room = has_room _ before c.args.w after c.loop-i.r c.loop-i.back c.loop-i.i c.loop-i-test.true c.loop-i.invariant.1 c.loop-i.invariant.2 c.if-r-ne0.false c.requires.walk_asks.1.few c.requires.walk_asks.1.few_removed in
-    record { run_held = (c.loop-i.invariant.0, c.requires.run_held.1); visitable = visitable_apart _ (after b d) (after [] []) refl refl refl refl v; has_room = room }
+pub returns-in_err-visited : goal.returns-in_err-visited
+returns-in_err-visited c =
+    let before = run_of c.args.run.now c.args.ends.now in
+    let after = run_of c.loop-n.run c.args.ends.now in
+    let g = at_place c.args.list.now before after c.loop-n.back c.loop-n.n-index c.loop-n-test.true c.loop-n.invariant.walking in
+    let k = c.in_err-visited.ensures in
+    let p = err_from_is_err_and c.from_residual.result c.from_residual.ensures.1 in
+    rw (p.1, p.2)
+    (record {
+      gives = walking_stops c.args.list.now before after c.loop-n.back _ _ g (run_of c.simplify_ir_node_orders.new.run c.args.ends.now) _ k.comes;
+      same_size = (k.same_size.0 ∙ c.loop-n.invariant.same_size.0, k.same_size.1 ∙ c.loop-n.invariant.same_size.1);
+    })
 
-pub overflow_add-i : goal.overflow_add-i
-overflow_add-i c = omega (arith, c.loop-i-test.true, c.requires.walk_asks.1.few)
+pub loop-n-preserved : goal.loop-n-preserved
+loop-n-preserved c =
+    let before = run_of c.args.run.now c.args.ends.now in
+    let after = run_of c.loop-n.run c.args.ends.now in
+    let g = at_place c.args.list.now before after c.loop-n.back c.loop-n.n-index c.loop-n-test.true c.loop-n.invariant.walking in
+    let k = c.in_ok-visited.ensures in
+    let fits = noted_fits _ c.in_ok-visited.visited c.loop-n.back c.note.new.self c.loop-n.n-index c.note.ensures c.loop-n.invariant.stored c.loop-n.invariant.counted in
+    record {
+      same_size = (k.same_size.0 ∙ c.loop-n.invariant.same_size.0, k.same_size.1 ∙ c.loop-n.invariant.same_size.1);
+      walking = walking_more c.args.list.now before after c.loop-n.back _ _ g (run_of c.simplify_ir_node_orders.new.run c.args.ends.now) c.in_ok-visited.visited c.note.new.self c.note.ensures k.comes;
+      stored = fits.0;
+      counted = fits.1;
+    }
 
-pub loop-i-preserved : goal.loop-i-preserved
-loop-i-preserved c =
-    let before : List ℕ → List ℕ → Run = λ b d. run_of c.args.recs.now c.args.line.now c.args.off.now c.args.w.exprs c.args.steps.now c.args.ends.now c.args.edges.now c.args.size b d c.args.w.tally in
-    let after : List ℕ → List ℕ → Run = λ b d. run_of c.loop-i.recs c.loop-i.line c.loop-i.off c.loop-i.r.exprs c.loop-i.steps c.args.ends.now c.loop-i.edges c.args.size b d c.loop-i.r.tally in
-    let (g, o) = walking_next _ before c.args.w after c.loop-i.r c.loop-i.back c.loop-i.i c.loop-i-test.true c.loop-i.invariant.1 c.loop-i.invariant.2 c.if-r-ne0.false _ c.visit_place-r.result _ c.visit_place-r.ensures.placed in
-    (c.visit_place-r.ensures.run_held_2, g, o)
-
-pub returns : goal.returns
-returns c = let before : List ℕ → List ℕ → Run = λ b d. run_of c.args.recs.now c.args.line.now c.args.off.now c.args.w.exprs c.args.steps.now c.args.ends.now c.args.edges.now c.args.size b d c.args.w.tally in
-    let after : List ℕ → List ℕ → Run = λ b d. run_of c.loop-i.recs c.loop-i.line c.loop-i.off c.loop-i.r.exprs c.loop-i.steps c.args.ends.now c.loop-i.edges c.args.size b d c.loop-i.r.tally in
-    record { walk_gives = walked_all _ before c.args.w after c.loop-i.r c.loop-i.back c.loop-i.i c.loop-i-test.false c.loop-i.invariant.1; run_held_2 = c.loop-i.invariant.0; goes_back = goes_back _ _ c.loop-i.i c.args.w c.loop-i.r c.loop-i.invariant.2 }
+pub returns-clause-gives : goal.returns-clause-gives
+returns-clause-gives c =
+    let none = drop_of_length-le c.args.list.now {i = c.loop-n.n-index} (omega (arith, c.loop-n-test.false)) in
+    walking_ends c.args.list.now _ (run_of c.loop-n.run c.args.ends.now) c.loop-n.back (rw none at c.loop-n.invariant.walking) (omega (arith, c.loop-n.invariant.counted))

@@ -4,4 +4,4 @@ use native.Mathlib.Omega.{arith}
 use Rattle.storage.proofs.edges.loosen_if.Goals as goal
 
 pub returns : goal.returns
-returns c = ((λ ends. loosened_there ends _ _ _ (omega arith) (omega arith) _ c.pick_byte.ensures), simp length-set (omega arith))
+returns c = ((λ ends. loosened_there ends _ _ _ (omega arith) (omega arith) _ c.pick.ensures), simp length-set (omega arith))

@@ -10,10 +10,6 @@ write_number-j-requires c =
     room_rest (44 ∷ []) (decimal c.args.n) c.args.out.now _ _
     (omega (arith, wide_short c.args.n (omega arith))) c.put_byte-k.ensures
 
-pub overflow_add-result : goal.overflow_add-result
-overflow_add-result c =
-    omega (arith, wide_short c.args.n (omega arith), c.put_byte-k.ensures.len, c.write_number-j.ensures.len)
-
 pub returns : goal.returns
 returns c = (
   then _ _ _ _ _ _ _ c.put_byte-k.ensures c.write_number-j.ensures,

@@ -1,19 +1,15 @@
 use native.Mathlib.Omega.{arith}
 use Rattle.writing.specs.Wrote.{field}
-use Rattle.writing.proofs.Over.{no_turn, turn, all_turns}
+use Rattle.writing.proofs.Over.{no_turn, turn}
 use borrow.Author.Rules.{rules}
 use Rattle.writing.proofs.lines.put_fields.Goals as goal
 
-pub loop-i-init : goal.loop-i-init
-loop-i-init c = (omega arith, omega arith, omega arith, no_turn field c.args.ns.now _)
+pub loop-n-init : goal.loop-n-init
+loop-n-init c = (omega arith, search rules, no_turn field c.args.ns.now _)
 
-pub loop-i-preserved : goal.loop-i-preserved
-loop-i-preserved c = (
-  omega arith,
+pub loop-n-preserved : goal.loop-n-preserved
+loop-n-preserved c = (
   omega arith,
   search rules,
-  turn field c.args.ns.now c.loop-i.i 0 _ _ _ _ _ c.loop-i-test.true c.loop-i.invariant.3 c.put_field-k.ensures.0,
+  turn field c.args.ns.now c.loop-n.n-index 0 _ _ _ _ _ c.loop-n-test.true c.loop-n.invariant.2 c.put_field-len.ensures.0,
 )
-
-pub returns : goal.returns
-returns c = (all_turns field c.args.ns.now c.loop-i.i _ _ _ c.loop-i-test.false c.loop-i.invariant.3, omega arith)

@@ -27,7 +27,7 @@ returns-in-BinaryExpr c = simp (c.projected.ensures, c.in-BinaryExpr.is)
 
 pub returns-in-Ternary : goal.returns-in-Ternary
 unfolding after
-returns-in-Ternary c = simp (c.ternary.ensures, c.union.ensures, c.first_child.ensures, c.in-Ternary.is)
+returns-in-Ternary c = simp (c.ternary.ensures, c.union.ensures, c.first.ensures, c.in-Ternary.is)
 
 pub returns-in-Cast : goal.returns-in-Cast
 unfolding after

@@ -1,0 +1,34 @@
+use native.Mathlib.Omega.{arith}
+use Rattle.std.proofs.lemmas.Result.{err_from_is_err_and}
+use Rattle.claims.proofs.Plans.{plan_of}
+use Rattle.storage.proofs.Laws.{length_steps}
+use Rattle.ir_graph.proofs.FirstPass.{zeros}
+use Rattle.simplify_ordering.specs.Walks.{sheet_of}
+use Rattle.engine.proofs.RunLaws.{refused_call, finished_call}
+use Rattle.engine.proofs.run.finish_run.Goals as goal
+
+pub build_ir_traversal_graph-requires : goal.build_ir_traversal_graph-requires
+build_ir_traversal_graph-requires c = record { plan = plan_of (sheet_of c.args.run.now) c.requires.formed; ends_empty = zeros 544 }
+
+pub simplify_and_fetch_orderings-requires : goal.simplify_and_fetch_orderings-requires
+simplify_and_fetch_orderings-requires c =
+    let b = c.build_ir_traversal_graph.ensures in
+    let s = c.args.run.now.steps in
+    rw c.as_slice.ensures
+    (record {
+      formed = c.requires.formed;
+      few = b.few_places;
+      places_are = b.places_are;
+      edges_are = b.edges_are;
+      rows = λ m h. b.in_rows m (omega (arith, h, length_steps s.bytes s.count));
+    })
+
+pub returns-in_err-removed : goal.returns-in_err-removed
+returns-in_err-removed c =
+    let p = err_from_is_err_and c.from_residual.result c.from_residual.ensures.1 in
+    rw (p.1, p.2) (refused_call (sheet_of c.args.run.now) c.args.out.now _ c.in_err-removed.ensures.0)
+
+pub returns : goal.returns
+returns c =
+    let (back, gone, ends, count) = c.in_ok-removed.ensures in
+    finished_call (sheet_of c.args.run.now) c.args.out.now _ _ _ _ back gone ends count c.write_run.ensures

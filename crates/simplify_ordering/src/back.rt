@@ -1,0 +1,46 @@
+// The places that a walk goes back along, and how many sorts it removed.
+ghost use Rattle.std.specs.Prelude.{◌≡◌, ◌+◌, ◌≤◌, ◌<◌, ◌^◌, length};
+
+use crate::visit::Visited;
+
+// They are stored from the end of the array on, the last one first: from `at`.
+#[derive(Drop)]
+pub struct Back {
+    pub places: [u8; 288],
+    pub at: usize,
+    pub removed: usize,
+    pub ghost few: { at ≤ 288 },
+    pub ghost sized: { length places ≡ 288 },
+}
+
+impl Back {
+    ghost use Rattle.simplify_ordering.specs.Walks.{Noted};
+
+    pub fn new() -> Back
+        ensures none { result.at ≡ 288 }
+        ensures none_removed { result.removed ≡ 0 }
+    {
+        Back {
+            places: [0; 288],
+            at: 288,
+            removed: 0,
+        }
+    }
+
+    // After the visit to n: a settled step is a place to go back along, a removed sort is counted.
+    pub fn note(&mut self, n: u8, visited: Visited)
+        requires room { 1 ≤ self.old.at }
+        requires few_removed { self.old.removed + 1 < 2 ^ 64 }
+        ensures { Noted n visited self.old self.new }
+    {
+        match visited {
+            Visited::Settled => {
+                self.at -= 1;
+                self.places[self.at] = n;
+            }
+            Visited::Removed => {
+                self.removed += 1;
+            }
+        }
+    }
+}

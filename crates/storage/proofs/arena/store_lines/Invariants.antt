@@ -1,8 +1,0 @@
-use Rattle.storage.proofs.ArenaLaws.{StoredFrom}
-use Rattle.storage.proofs.arena.store_lines.Given as goal
-
-abbrev pub invariant-loop-p : goal.invariant-loop-p
-invariant-loop-p l = StoredFrom l.initial.recs l.line l.off l.n l.p l.recs
-
-abbrev pub decreases-loop-p : goal.decreases-loop-p
-decreases-loop-p l = l.p
