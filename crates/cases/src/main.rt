@@ -23,6 +23,7 @@ fn run_all<R: Read, F: FnMut(Case<'_>) -> bool>(file: &mut R, mut agrees: F) -> 
     requires { F.IsAlwaysCallable agrees }
 {
     let mut score = Score::NONE;
+    // a buffer of its own: nothing here allocates
     let mut buf = [0; 65536];
     for _ in 0..100_000 {
         match read_case(file, &mut buf) {

@@ -34,6 +34,7 @@ fn main(rt: HostRuntime) {
     let Some(n) = read_input(&rt, "standard input", &mut rt.stdin(), &mut sheet) else {
         return;
     };
+    // a buffer of its own: nothing here allocates
     let mut out = [0; 16384];
     let answer = engine::finish(&sheet[..n], &mut out);
     put_answer(&rt, answer, &out);

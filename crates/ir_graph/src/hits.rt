@@ -13,6 +13,7 @@ use storage::steps::is_cache;
 use storage::stored::Steps;
 
 // The step i is popped: a Cache's hit is counted, and its inputs are pushed unless it is a Cache that was met before.
+// Bytes, as it asks of the step i alone.
 fn meet(steps: &[u8; 1024], i: usize, stack: &mut Places, hits: &mut [u8; 32])
     requires i_bound { i < 32 }
     requires step_formed { StepFormed steps.now i }

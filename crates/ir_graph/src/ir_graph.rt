@@ -17,7 +17,8 @@ use storage::steps::is_cache;
 use storage::stored::{Edges, Steps};
 
 // The inputs that follow the place of the step i: a Cache's follow at its last place.
-// No one function with `meet`: the two count in opposite directions and stop at other counts, which is all that they do.
+// No one function with `meet`: the two count in opposite directions and stop at other counts, which is all that they do. Bytes, as
+// it asks of the step i alone.
 fn follow(steps: &[u8; 1024], i: usize, places: &mut Places, hits: &mut [u8; 32])
     requires i_bound { i < 32 }
     requires step_formed { StepFormed steps.now i }

@@ -13,6 +13,7 @@ pub enum IRNodeKey {
 }
 
 impl IRNodeKey {
+    // Of bytes: it asks of the step i only that it is there.
     pub fn new(steps: &[u8; 1024], i: u8) -> IRNodeKey
         requires { i < 32 }
         ensures { result ≡ node_key (stored_step steps.now i) i }

@@ -7,7 +7,7 @@ ghost use Rattle.ir_graph.specs.Turns.{root};
 use crate::places::Places;
 use storage::steps::is_sink;
 
-// Pushes the step i if it is a root.
+// Pushes the step i if it is a root. Bytes, as it asks of that step alone.
 fn push_root(steps: &[u8; 1024], i: usize, list: &mut Places)
     requires { (i < 32) × (length list.old < 288) }
     ensures { list.new ≡ list.old ++ root steps.now i }

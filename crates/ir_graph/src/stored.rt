@@ -4,6 +4,7 @@ ghost use Rattle.storage.specs.Stored.{stored_step, StepFormed};
 
 use crate::places::Places;
 
+// Bytes: it asks that step i is formed, and nothing of the others.
 pub fn copy_inputs(steps: &[u8; 1024], i: usize, list: &mut Places)
     requires i_bound { i < 32 }
     requires step_formed { StepFormed steps.now i }

@@ -20,6 +20,7 @@ fn read_argument<R: Env + Files + Eprint>(rt: &R, i: usize, buf: &mut [u8]) -> O
 
 // Did all of the mark's line go out?
 fn print_mark(rt: &(impl Print + Eprint), sheet: &[u8], paper: &[u8]) -> bool {
+    // a buffer of its own: nothing here allocates
     let mut out = [0; 16384];
     let answer = marking::mark(sheet, paper, &mut out);
     let mut line = [0; 6];

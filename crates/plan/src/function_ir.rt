@@ -51,7 +51,7 @@ impl TryFrom<u8> for FunctionIR {
 }
 
 impl FunctionIR {
-    // By its number on a sheet. A number past the table, which is refused, is given the first.
+    // By its number on a sheet; a number past the table is given the first. It cannot fail, as `try_from` does: stored numbers were checked.
     pub fn of_number(k: u8) -> FunctionIR
         ensures { result ≡ function_ir k }
     {

@@ -42,7 +42,7 @@ impl TryFrom<u8> for JoinType {
 }
 
 impl JoinType {
-    // By its number on a sheet. A number past the table, which is refused, is given the first.
+    // By its number on a sheet; a number past the table is given the first. It cannot fail, as `try_from` does: stored numbers were checked.
     pub fn of_number(k: u8) -> JoinType
         ensures { result ≡ join_type k }
     {
@@ -90,7 +90,7 @@ impl TryFrom<u8> for MaintainOrderJoin {
 }
 
 impl MaintainOrderJoin {
-    // By its number on a sheet. A number past the table, which is refused, is given the first.
+    // By its number on a sheet; a number past the table is given the first. It cannot fail, as `try_from` does: stored numbers were checked.
     pub fn of_number(k: u8) -> MaintainOrderJoin
         ensures { result ≡ maintain_order k }
     {

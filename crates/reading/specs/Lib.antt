@@ -3,6 +3,7 @@ pub mod Line
 pub mod Field
 pub mod Tables
 pub mod Held
+pub mod Lent
 pub mod Lines
 pub mod Uses
 pub mod Marks

@@ -4,10 +4,12 @@ ghost use Rattle.std.specs.Prelude.{◌≡◌, true, List, [], ◌++◌, ℕ, �
 ghost use Rattle.plan.specs.Lists.{all?, numbered};
 ghost use Rattle.plan.specs.Faults.{children_earlier, field_right};
 ghost use Rattle.storage.specs.Stored.{stored_expr, stored_exprs};
-ghost use Rattle.reading.specs.Held.{children_of, ExprsHeld};
+ghost use Rattle.reading.specs.Held.{children_of};
+ghost use Rattle.reading.specs.Lent.{exprs_in};
 ghost use Rattle.reading.specs.Uses.{Counted};
 ghost use Rattle.reading.specs.Marks.{marked_by, markings, field_marked};
 
+use crate::held::ExprLines;
 use crate::stored::{children_of, is_struct_eval, is_struct_field};
 use crate::uses::count_all;
 
@@ -26,12 +28,11 @@ fn mark_line(marks: &mut [u8; 256], exprs: &[u8; 2048], i: usize)
     }
 }
 
-fn mark_lines(marks: &mut [u8; 256], exprs: &[u8; 2048], n: usize)
-    requires { ExprsHeld exprs.now n }
-    ensures { Counted marks.old [] → Counted marks.new (markings exprs.now n n) }
+fn mark_lines(marks: &mut [u8; 256], exprs: ExprLines<'_>)
+    ensures { Counted marks.old [] → Counted marks.new (markings exprs.entry.bytes.now exprs.entry.count exprs.entry.count) }
 {
-    for i in (0..n).rev() {
-        mark_line(marks, exprs, i);
+    for i in (0..exprs.count).rev() {
+        mark_line(marks, exprs.bytes, i);
     }
 }
 
@@ -43,18 +44,17 @@ fn field_right(marks: &[u8; 256], exprs: &[u8; 2048], i: usize) -> bool
     !is_struct_field(exprs, i) || 1 <= marks[i]
 }
 
-fn fields_marked(marks: &[u8; 256], exprs: &[u8; 2048], n: usize) -> bool
-    requires { n ≤ 128 }
-    ensures { (names : List ℕ) → Counted marks.now names → result ≡ all? (field_marked names) (numbered 0 (stored_exprs exprs.now n)) }
+fn fields_marked(marks: &[u8; 256], exprs: ExprLines<'_>) -> bool
+    ensures { (names : List ℕ) → Counted marks.now names → result ≡ all? (field_marked names) (numbered 0 (exprs_in exprs.entry)) }
 {
-    (0..n).all(|i| field_right(marks, exprs, i))
+    (0..exprs.count).all(|i| field_right(marks, exprs.bytes, i))
 }
 
-pub fn fields_right(exprs: &[u8; 2048], n: usize) -> bool
-    requires { ExprsHeld exprs.now n × (all? children_earlier (numbered 0 (stored_exprs exprs.now n)) ≡ true) }
-    ensures { let es = stored_exprs exprs.now n in result ≡ all? (field_right es) (numbered 0 es) }
+pub fn fields_right(exprs: ExprLines<'_>) -> bool
+    requires { all? children_earlier (numbered 0 (exprs_in exprs)) ≡ true }
+    ensures { let es = exprs_in exprs.entry in result ≡ all? (field_right es) (numbered 0 es) }
 {
     let mut marks = [0u8; 256];
-    mark_lines(&mut marks, exprs, n);
-    fields_marked(&marks, exprs, n)
+    mark_lines(&mut marks, exprs);
+    fields_marked(&marks, exprs)
 }

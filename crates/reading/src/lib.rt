@@ -1,17 +1,18 @@
 // From the bytes of a sheet to its plan: refusals 2 to 9, 12 and 13.
 #![tactic(auto)]
 
-ghost use Rattle.storage.specs.Stored.{StepsHeld};
-ghost use Rattle.reading.specs.Held.{ExprsHeld, sheet};
+ghost use Rattle.reading.specs.Lent.{sheet_in};
 ghost use Rattle.reading.specs.Plan.{checked_plan, plan_of, PlanIs, PlanHeld};
 
 use crate::fields::fields_right;
+use crate::held::{ExprLines, StepLines};
 use crate::lines::read_lines;
 use crate::references::references_right;
 use crate::uses::{ids_differ, uses_fault};
 use plan::refusal::Refusal;
 
 pub mod fields; // fields.rt: struct fields under an evaluation child
+pub mod held; // held.rt: stored lines, lent with their number
 pub mod line; // line.rt: the numbers of a line
 pub mod lines; // lines.rt: the lines, one after the other, as they are stored
 pub mod number; // number.rt: a number of a line
@@ -28,31 +29,26 @@ pub struct Counts {
 }
 
 // What is checked once all lines are read: a plan is there (6), references (7), uses (8 and 12), ids (13), struct fields (9).
-fn check_plan(
-    exprs: &[u8; 2048],
-    count: usize,
-    steps: &[u8; 1024],
-    n: usize,
-) -> Result<Counts, Refusal>
-    requires { ExprsHeld exprs.now count × StepsHeld steps.now n }
-    ensures { PlanIs (checked_plan (sheet exprs.now count steps.now n)) exprs.now steps.now result × PlanHeld exprs.now steps.now result }
+fn check_plan(exprs: ExprLines<'_>, steps: StepLines<'_>) -> Result<Counts, Refusal>
+    ensures { let es = exprs.entry.bytes.now in let ps = steps.entry.bytes.now in
+        PlanIs (checked_plan (sheet_in exprs.entry steps.entry)) es ps result × PlanHeld es ps result }
 {
-    if n == 0 {
+    if steps.count == 0 {
         return Err(Refusal::NoPlan);
     }
-    if !references_right(exprs, count, steps, n) {
+    if !references_right(exprs, steps) {
         return Err(Refusal::Reference);
     }
-    uses_fault(exprs, count, steps, n)?;
-    if !ids_differ(steps, n) {
+    uses_fault(exprs, steps)?;
+    if !ids_differ(steps.bytes, steps.count) {
         return Err(Refusal::CacheId);
     }
-    if !fields_right(exprs, count) {
+    if !fields_right(exprs) {
         return Err(Refusal::StructField);
     }
     Ok(Counts {
-        exprs: count,
-        steps: n,
+        exprs: exprs.count,
+        steps: steps.count,
     })
 }
 
@@ -68,5 +64,13 @@ pub fn read_plan(
         return Err(Refusal::LongSheet);
     }
     let lines = read_lines(sheet, exprs, steps)?;
-    check_plan(exprs, lines.exprs, steps, lines.steps)
+    let exprs = ExprLines {
+        bytes: exprs,
+        count: lines.exprs,
+    };
+    let steps = StepLines {
+        bytes: steps,
+        count: lines.steps,
+    };
+    check_plan(exprs, steps)
 }

@@ -3,9 +3,11 @@ ghost use Rattle.std.specs.Prelude.{◌≡◌, List, ℕ, ◌≤◌, ◌<◌, lt
 ghost use Rattle.plan.specs.Lists.{all?, numbered};
 ghost use Rattle.plan.specs.Sheet.{Expr};
 ghost use Rattle.plan.specs.Faults.{lines, children_earlier, inputs_earlier, references_right};
-ghost use Rattle.storage.specs.Stored.{stored_expr, stored_step, stored_exprs, stored_steps, StepsHeld};
-ghost use Rattle.reading.specs.Held.{children_of, ExprsHeld, StepHeld, sheet, both, before_no_sink};
+ghost use Rattle.storage.specs.Stored.{stored_expr, stored_step, stored_exprs, stored_steps};
+ghost use Rattle.reading.specs.Held.{children_of, StepHeld, both, before_no_sink};
+ghost use Rattle.reading.specs.Lent.{exprs_in, steps_in, sheet_in};
 
+use crate::held::{ExprLines, StepLines};
 use crate::stored::{children_of, exprs_of, inputs_of};
 use storage::steps::is_sink;
 
@@ -22,11 +24,10 @@ fn children_earlier(exprs: &[u8; 2048], i: usize) -> bool
     all_below(children_of(exprs, i), i)
 }
 
-pub fn all_children_earlier(exprs: &[u8; 2048], n: usize) -> bool
-    requires { ExprsHeld exprs.now n }
-    ensures { result ≡ all? children_earlier (numbered 0 (stored_exprs exprs.now n)) }
+pub fn all_children_earlier(exprs: ExprLines<'_>) -> bool
+    ensures { result ≡ all? children_earlier (numbered 0 (exprs_in exprs.entry)) }
 {
-    (0..n).all(|i| children_earlier(exprs, i))
+    (0..exprs.count).all(|i| children_earlier(exprs.bytes, i))
 }
 
 // Is the m-th line before the i-th, and no Sink?
@@ -47,11 +48,11 @@ fn inputs_earlier(steps: &[u8; 1024], i: usize) -> bool
         .all(|m| before_no_sink(steps, i, usize::from(*m)))
 }
 
-pub fn all_inputs_earlier(steps: &[u8; 1024], n: usize) -> bool
-    requires { StepsHeld steps.now n }
-    ensures { (es : List Expr) → result ≡ all? (inputs_earlier (record { exprs = es; steps = stored_steps steps.now n })) (numbered 0 (stored_steps steps.now n)) }
+pub fn all_inputs_earlier(steps: StepLines<'_>) -> bool
+    ensures { let ss = steps_in steps.entry in
+        (es : List Expr) → result ≡ all? (inputs_earlier (record { exprs = es; steps = ss })) (numbered 0 ss) }
 {
-    (0..n).all(|i| inputs_earlier(steps, i))
+    (0..steps.count).all(|i| inputs_earlier(steps.bytes, i))
 }
 
 // The expressions are E lines, of which there are `count`.
@@ -62,22 +63,20 @@ fn exprs_there(steps: &[u8; 1024], i: usize, count: usize) -> bool
     all_below(exprs_of(steps, i), count)
 }
 
-pub fn all_exprs_there(steps: &[u8; 1024], n: usize, count: usize) -> bool
-    requires { StepsHeld steps.now n }
-    ensures { result ≡ all? (λ (i, s). all? (λ q. ltb q count) (both s)) (numbered 0 (stored_steps steps.now n)) }
+pub fn all_exprs_there(steps: StepLines<'_>, count: usize) -> bool
+    ensures { result ≡ all? (λ (i, s). all? (λ q. ltb q count) (both s)) (numbered 0 (steps_in steps.entry)) }
 {
-    (0..n).all(|i| exprs_there(steps, i, count))
+    (0..steps.count).all(|i| exprs_there(steps.bytes, i, count))
 }
 
-pub fn references_right(exprs: &[u8; 2048], count: usize, steps: &[u8; 1024], n: usize) -> bool
-    requires { ExprsHeld exprs.now count × StepsHeld steps.now n }
-    ensures { let sh = sheet exprs.now count steps.now n in result ≡ all? (references_right sh) (lines sh) }
+pub fn references_right(exprs: ExprLines<'_>, steps: StepLines<'_>) -> bool
+    ensures { let sh = sheet_in exprs.entry steps.entry in result ≡ all? (references_right sh) (lines sh) }
 {
-    if !all_children_earlier(exprs, count) {
+    if !all_children_earlier(exprs) {
         return false;
     }
-    if !all_inputs_earlier(steps, n) {
+    if !all_inputs_earlier(steps) {
         return false;
     }
-    all_exprs_there(steps, n, count)
+    all_exprs_there(steps, exprs.count)
 }

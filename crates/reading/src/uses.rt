@@ -3,10 +3,11 @@ ghost use Rattle.std.specs.Prelude.{◌≡◌, List, [], ◌∷◌, ◌++◌, ma
 ghost use Rattle.plan.specs.Lists.{all?, numbered};
 ghost use Rattle.plan.specs.Faults.{cache_ids, named, use_right, use_number, first_fault};
 ghost use Rattle.plan.specs.Refusals.{refusal_number, fault_number};
-ghost use Rattle.storage.specs.Stored.{stored_step, stored_exprs, stored_steps, StepsHeld};
-ghost use Rattle.reading.specs.Held.{ExprsHeld, sheet};
+ghost use Rattle.storage.specs.Stored.{stored_step, stored_exprs, stored_steps};
+ghost use Rattle.reading.specs.Lent.{exprs_in, steps_in, sheet_in};
 ghost use Rattle.reading.specs.Uses.{Counted, all_children, all_both, uses_fault, exprs_fault, steps_fault, ids_once, id_of, expr_fault_in, step_fault_in, id_once_in};
 
+use crate::held::{ExprLines, StepLines};
 use crate::stored::{children_of, exprs_of, inputs_of};
 use plan::ir::IR;
 use plan::refusal::Refusal;
@@ -32,33 +33,33 @@ pub fn count_all(counts: &mut [u8; 256], numbers: &[u8])
     }
 }
 
-// The children of the first n E lines.
-fn count_children(counts: &mut [u8; 256], exprs: &[u8; 2048], n: usize)
-    requires { ExprsHeld exprs.now n }
-    ensures { (names : List ℕ) → Counted counts.old names → Counted counts.new (names ++ all_children (stored_exprs exprs.now n)) }
+// The passes from count_children to count_ids are loops of three lines, each over lists of its own. One function that took the list as a
+// closure would have the closure's law in its contract, and that is longer than the loops.
+
+// The children of the E lines.
+fn count_children(counts: &mut [u8; 256], exprs: ExprLines<'_>)
+    ensures { (names : List ℕ) → Counted counts.old names → Counted counts.new (names ++ all_children (exprs_in exprs.entry)) }
 {
-    for i in 0..n {
-        count_all(counts, children_of(exprs, i));
+    for i in 0..exprs.count {
+        count_all(counts, children_of(exprs.bytes, i));
     }
 }
 
-// The expressions of the first n P lines.
-fn count_expressions(counts: &mut [u8; 256], steps: &[u8; 1024], n: usize)
-    requires { StepsHeld steps.now n }
-    ensures { (names : List ℕ) → Counted counts.old names → Counted counts.new (names ++ all_both (stored_steps steps.now n)) }
+// The expressions of the P lines.
+fn count_expressions(counts: &mut [u8; 256], steps: StepLines<'_>)
+    ensures { (names : List ℕ) → Counted counts.old names → Counted counts.new (names ++ all_both (steps_in steps.entry)) }
 {
-    for i in 0..n {
-        count_all(counts, exprs_of(steps, i));
+    for i in 0..steps.count {
+        count_all(counts, exprs_of(steps.bytes, i));
     }
 }
 
-// The inputs of the first n P lines.
-fn count_inputs(counts: &mut [u8; 256], steps: &[u8; 1024], n: usize)
-    requires { StepsHeld steps.now n }
-    ensures { (names : List ℕ) → Counted counts.old names → Counted counts.new (names ++ named (stored_steps steps.now n)) }
+// The inputs of the P lines.
+fn count_inputs(counts: &mut [u8; 256], steps: StepLines<'_>)
+    ensures { (names : List ℕ) → Counted counts.old names → Counted counts.new (names ++ named (steps_in steps.entry)) }
 {
-    for i in 0..n {
-        count_all(counts, inputs_of(steps, i));
+    for i in 0..steps.count {
+        count_all(counts, inputs_of(steps.bytes, i));
     }
 }
 
@@ -129,13 +130,12 @@ fn first_expr_fault(counts: &[u8; 256], n: usize) -> Result<(), Refusal>
     Ok(())
 }
 
-// The first P line at fault, of n.
-fn first_step_fault(counts: &[u8; 256], steps: &[u8; 1024], n: usize) -> Result<(), Refusal>
-    requires { n ≤ 32 }
-    ensures { (names : List ℕ) → Counted counts.now names → fault_number result ≡ first_fault (map (step_fault_in names) (numbered 0 (stored_steps steps.now n))) }
+// The first P line at fault. A loop of its own beside the one above, which goes over the counts alone.
+fn first_step_fault(counts: &[u8; 256], steps: StepLines<'_>) -> Result<(), Refusal>
+    ensures { (names : List ℕ) → Counted counts.now names → fault_number result ≡ first_fault (map (step_fault_in names) (numbered 0 (steps_in steps.entry))) }
 {
-    for i in 0..n {
-        step_fault(kind_of(steps, i), counts[i])?;
+    for i in 0..steps.count {
+        step_fault(kind_of(steps.bytes, i), counts[i])?;
     }
     Ok(())
 }
@@ -156,43 +156,30 @@ fn all_ids_once(counts: &[u8; 256], steps: &[u8; 1024], n: usize) -> bool
 }
 
 // The pass over the E lines.
-fn exprs_fault(
-    exprs: &[u8; 2048],
-    count: usize,
-    steps: &[u8; 1024],
-    n: usize,
-) -> Result<(), Refusal>
-    requires { ExprsHeld exprs.now count × StepsHeld steps.now n }
-    ensures { fault_number result ≡ exprs_fault (sheet exprs.now count steps.now n) }
+fn exprs_fault(exprs: ExprLines<'_>, steps: StepLines<'_>) -> Result<(), Refusal>
+    ensures { fault_number result ≡ exprs_fault (sheet_in exprs.entry steps.entry) }
 {
     let mut counts = [0u8; 256];
-    count_children(&mut counts, exprs, count);
-    count_expressions(&mut counts, steps, n);
-    first_expr_fault(&counts, count)
+    count_children(&mut counts, exprs);
+    count_expressions(&mut counts, steps);
+    first_expr_fault(&counts, exprs.count)
 }
 
 // The pass over the P lines, in the same way.
-fn steps_fault(steps: &[u8; 1024], n: usize) -> Result<(), Refusal>
-    requires { StepsHeld steps.now n }
-    ensures { fault_number result ≡ steps_fault (stored_steps steps.now n) }
+fn steps_fault(steps: StepLines<'_>) -> Result<(), Refusal>
+    ensures { fault_number result ≡ steps_fault (steps_in steps.entry) }
 {
     let mut counts = [0u8; 256];
-    count_inputs(&mut counts, steps, n);
-    first_step_fault(&counts, steps, n)
+    count_inputs(&mut counts, steps);
+    first_step_fault(&counts, steps)
 }
 
 // The whole pass, E lines before P lines: 8 or 12 by the first line at fault.
-pub fn uses_fault(
-    exprs: &[u8; 2048],
-    count: usize,
-    steps: &[u8; 1024],
-    n: usize,
-) -> Result<(), Refusal>
-    requires { ExprsHeld exprs.now count × StepsHeld steps.now n }
-    ensures { fault_number result ≡ uses_fault (sheet exprs.now count steps.now n) }
+pub fn uses_fault(exprs: ExprLines<'_>, steps: StepLines<'_>) -> Result<(), Refusal>
+    ensures { fault_number result ≡ uses_fault (sheet_in exprs.entry steps.entry) }
 {
-    exprs_fault(exprs, count, steps, n)?;
-    steps_fault(steps, n)
+    exprs_fault(exprs, steps)?;
+    steps_fault(steps)
 }
 
 // No two Cache lines have one id.

@@ -3,7 +3,7 @@ ghost use Rattle.std.specs.Prelude.{◌≡◌, ◌+◌, ◌≤◌, ◌<◌, ◌^
 
 use crate::visit::Visited;
 
-// They are stored from the end of the array on, the last one first: from `at`.
+// They are stored from the end of the array on, the last one first: from `at`. Fixed memory: a plan has at most 288 places.
 #[derive(Drop)]
 pub struct Back {
     pub places: [u8; 288],

@@ -6,7 +6,8 @@ ghost use Rattle.storage.specs.Held.{arena_in};
 
 use crate::stored::{Arena, Lines};
 
-// Record l over record p, which is behind it.
+// Record l over record p, which is behind it. Bytes, here and in the next two: while lines are written out their children need not fall,
+// as those of Records do.
 fn copy_record(recs: &mut [u8; 2048], l: usize, p: usize)
     requires { Copyable recs.old l p }
     ensures { ExprStored recs.old p (stored_expr recs.old l) recs.new }

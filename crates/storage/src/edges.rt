@@ -21,6 +21,8 @@ pub fn slot_of(ends: &[u8; 544], k: usize) -> u8
     ends[256 + k]
 }
 
+// The functions of bytes and a place ask only that the place is there, which is less than Edges does.
+
 // The step that produces edge k, 255 for none.
 pub fn producer_of(edges: &[u8; 512], k: usize) -> u8
     requires { k < 256 }

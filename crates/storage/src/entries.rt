@@ -2,7 +2,7 @@
 ghost use Rattle.std.specs.Prelude.{◌≡◌, ◌<◌, ◌≤◌, get_or};
 ghost use Rattle.storage.specs.Entries.{list_of};
 
-// The first `count` of the nodes.
+// The first `count` of the nodes: fixed memory, of eight.
 #[derive(Clone, Copy)]
 pub struct Entries {
     pub nodes: [u8; 8],

@@ -48,6 +48,7 @@ impl Records {
     }
 }
 
+// These two ask only that the record's bytes are there, which is less than Records does.
 pub fn is_scalar(recs: &[u8; 2048], l: u8) -> bool
     requires { l < 128 }
     ensures { result ≡ (stored_expr recs.now l).scalar }

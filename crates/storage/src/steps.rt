@@ -13,6 +13,8 @@ use crate::stored::Steps;
 use plan::ir::IR;
 use plan::rules::Options;
 
+// The four of bytes and a place ask only that the place is there, which is less than Steps does: reading calls them of lines that it has
+// still to check.
 pub fn kind_of(steps: &[u8; 1024], i: usize) -> IR
     requires { i < 32 }
     ensures { result ≡ (stored_step steps.now i).kind }

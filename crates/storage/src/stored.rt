@@ -1,4 +1,5 @@
-// A plan as it is stored: the arena, the steps, and what changes of the edges, each with how many there are.
+// A plan as it is stored: the arena, the steps, and what changes of the edges, each with how many there are. Fixed memory: nothing here
+// allocates, and a lent array of bytes is never copied.
 ghost use Rattle.std.specs.Prelude.{◌≡◌, ℕ, ◌≤◌, ◌<◌, length, get_or};
 ghost use Rattle.storage.specs.Stored.{StepsHeld};
 ghost use Rattle.storage.specs.Based.{Based};

@@ -36,7 +36,7 @@ pub fn put_exprs(out: &mut [u8], exprs: &[u8; 2048], n: usize) -> usize
     put_each::<50, _>(out, n, |rest, i| put_expr(rest, exprs, i))
 }
 
-// The P line that is stored as number i.
+// The P line that is stored as number i. Bytes, as it asks of that step alone.
 pub fn put_step(out: &mut [u8], steps: &[u8; 1024], i: usize) -> usize
     requires i_bound { i < 32 }
     requires step_formed { StepFormed steps.now i }
@@ -59,7 +59,7 @@ pub fn put_steps(out: &mut [u8], steps: &Steps) -> usize
     put_each::<126, _>(out, steps.count, |rest, i| put_step(rest, &steps.bytes, i))
 }
 
-// The G line of the edge that is stored as number i.
+// The G line of the edge that is stored as number i. Bytes: it asks only that the edge's place is there.
 pub fn put_stored_edge(out: &mut [u8], ends: &[u8; 544], edges: &[u8; 512], i: usize) -> usize
     requires i_bound { i < 256 }
     requires in_bounds { 14 ≤ length out.old }

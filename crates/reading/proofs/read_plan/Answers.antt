@@ -1,7 +1,6 @@
-use native.Mathlib.Omega.{arith}
 use Rattle.std.proofs.lemmas.Result.{err_from_is_err_and}
 use Rattle.plan.specs.declared.refusal.Refusal.{Refusal}
-use Rattle.reading.proofs.Plans.{refuses, too_long, bad_line, good_lines, held_exprs, held_steps, same_plan}
+use Rattle.reading.proofs.Plans.{refuses, too_long, bad_line, good_lines, same_plan}
 use Rattle.reading.proofs.read_plan.Goals as goal
 
 pub returns-then-sheet-gt16384 : goal.returns-then-sheet-gt16384
@@ -11,9 +10,6 @@ pub returns-in_err-lines : goal.returns-in_err-lines
 returns-in_err-lines c =
     let p = err_from_is_err_and c.from_residual.result c.from_residual.ensures.1 in
     rw (p.1, p.2) (refuses _ _ _ _ (bad_line c.args.sheet.now c.if-sheet-gt16384.false _ c.in_err-lines.ensures), tt)
-
-pub check_plan-requires : goal.check_plan-requires
-check_plan-requires c = (held_exprs c.in_ok-lines.ensures.sound, held_steps c.in_ok-lines.ensures.sound (omega arith))
 
 pub returns : goal.returns
 returns c = (same_plan _ _ _ _ _ (good_lines c.args.sheet.now c.if-sheet-gt16384.false _ c.in_ok-lines.ensures.taken) c.check_plan.ensures.0, c.check_plan.ensures.1)

@@ -5,4 +5,4 @@ use Rattle.reading.specs.Marks.{markings}
 use Rattle.reading.proofs.fields.mark_lines.Given as goal
 
 abbrev pub invariant-loop-i : goal.invariant-loop-i
-invariant-loop-i l = Counted l.initial.marks [] → Counted l.marks (markings l.exprs l.n (l.n - l.i))
+invariant-loop-i l = Counted l.initial.marks [] → Counted l.marks (markings l.exprs.bytes.now l.exprs.count (l.exprs.count - l.i))

@@ -10,5 +10,5 @@ use Rattle.reading.proofs.references.all_children_earlier.Goals as goal
 
 pub returns : goal.returns
 returns c =
-    all_from_yields_List (λ i. children_earlier (i, stored_expr c.args.exprs.now i)) _ _ _ c.all.ensures.ran (YieldsList-from_range 0 c.args.n c.args.n (cc) (omega arith)) (λ x b q k. search (rules, tests))
-    ∙ exprs_all children_earlier c.args.exprs.now c.args.n
+    all_from_yields_List (λ i. children_earlier (i, stored_expr c.args.exprs.bytes.now i)) _ _ _ c.all.ensures.ran (YieldsList-from_range 0 c.args.exprs.count c.args.exprs.count (cc) (omega arith)) (λ x b q k. search (rules, tests))
+    ∙ exprs_all children_earlier _ _

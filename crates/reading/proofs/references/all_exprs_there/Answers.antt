@@ -12,5 +12,5 @@ use Rattle.reading.proofs.references.all_exprs_there.Goals as goal
 
 pub returns : goal.returns
 returns c =
-    all_from_yields_List (λ i. all? (λ q. ltb q c.args.count) (both (stored_step c.args.steps.now i))) _ _ _ c.all.ensures.ran (YieldsList-from_range 0 c.args.n c.args.n (cc) (omega arith)) (λ x b q k. search (rules, tests))
-    ∙ steps_all (λ (i, s). all? (λ q. ltb q c.args.count) (both s)) c.args.steps.now c.args.n
+    all_from_yields_List (λ i. all? (λ q. ltb q c.args.count) (both (stored_step c.args.steps.bytes.now i))) _ _ _ c.all.ensures.ran (YieldsList-from_range 0 c.args.steps.count c.args.steps.count (cc) (omega arith)) (λ x b q k. search (rules, tests))
+    ∙ steps_all (λ (i, s). all? (λ q. ltb q c.args.count) (both s)) _ _

@@ -12,5 +12,5 @@ use Rattle.reading.proofs.references.all_inputs_earlier.Goals as goal
 pub returns : goal.returns
 returns c =
     λ es.
-    all_from_yields_List (λ i. all? (before_no_sink c.args.steps.now i) (stored_step c.args.steps.now i).inputs) _ _ _ c.all.ensures.ran (YieldsList-from_range 0 c.args.n c.args.n (cc) (omega arith)) (λ x b q k. search (rules, tests))
-    ∙ inputs_all es c.args.steps.now c.args.n
+    all_from_yields_List (λ i. all? (before_no_sink c.args.steps.bytes.now i) (stored_step c.args.steps.bytes.now i).inputs) _ _ _ c.all.ensures.ran (YieldsList-from_range 0 c.args.steps.count c.args.steps.count (cc) (omega arith)) (λ x b q k. search (rules, tests))
+    ∙ inputs_all es _ _

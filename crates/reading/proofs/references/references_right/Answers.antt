@@ -2,13 +2,12 @@ use Rattle.reading.proofs.Refers.{not_children, not_inputs, all_three}
 use Rattle.reading.proofs.references.references_right.Goals as goal
 
 pub returns-then-not-all_children_earlier : goal.returns-then-not-all_children_earlier
-returns-then-not-all_children_earlier c =
-    not_children c.args.exprs.now c.args.steps.now c.args.count c.args.n c.all_children_earlier.ensures c.if-not-all_children_earlier.true
+returns-then-not-all_children_earlier c = not_children _ _ _ _ c.all_children_earlier.ensures c.if-not-all_children_earlier.true
 
 pub returns-then-not-all_inputs_earlier : goal.returns-then-not-all_inputs_earlier
 returns-then-not-all_inputs_earlier c =
-    not_inputs c.args.exprs.now c.args.steps.now c.args.count c.args.n c.all_children_earlier.ensures (c.all_inputs_earlier.ensures _) c.if-not-all_children_earlier.false c.if-not-all_inputs_earlier.true
+    not_inputs _ _ _ _ c.all_children_earlier.ensures (c.all_inputs_earlier.ensures _) c.if-not-all_children_earlier.false c.if-not-all_inputs_earlier.true
 
 pub returns : goal.returns
 returns c =
-    all_three c.args.exprs.now c.args.steps.now c.args.count c.args.n c.all_children_earlier.ensures (c.all_inputs_earlier.ensures _) c.all_exprs_there.ensures c.if-not-all_children_earlier.false c.if-not-all_inputs_earlier.false
+    all_three _ _ _ _ c.all_children_earlier.ensures (c.all_inputs_earlier.ensures _) c.all_exprs_there.ensures c.if-not-all_children_earlier.false c.if-not-all_inputs_earlier.false

@@ -12,4 +12,4 @@ pub loop-i-preserved : goal.loop-i-preserved
 loop-i-preserved c = and_more _ _ _ _ _ _ c.loop-i.invariant (open_names c.count_all.ensures) (more_children _ _ _ c.children_of.ensures)
 
 pub returns : goal.returns
-returns c = close_names _ _ _ _ c.loop-i.invariant (ap (λ k. all_children (stored_exprs c.args.exprs.now k)) (omega arith))
+returns c = close_names _ _ _ _ c.loop-i.invariant (ap (λ k. all_children (stored_exprs c.args.exprs.bytes.now k)) (omega arith))

@@ -12,4 +12,4 @@ pub loop-i-preserved : goal.loop-i-preserved
 loop-i-preserved c = and_more _ _ _ _ _ _ c.loop-i.invariant (open_names c.count_all.ensures) (more_both _ _ _ c.exprs_of.ensures)
 
 pub returns : goal.returns
-returns c = close_names _ _ _ _ c.loop-i.invariant (ap (λ k. all_both (stored_steps c.args.steps.now k)) (omega arith))
+returns c = close_names _ _ _ _ c.loop-i.invariant (ap (λ k. all_both (stored_steps c.args.steps.bytes.now k)) (omega arith))
