@@ -20,14 +20,14 @@ pub enum NoCase {
 }
 
 // The number of two bytes, the high one first.
-pub fn two(high: u8, low: u8) -> usize
+pub(crate) fn two(high: u8, low: u8) -> usize
     ensures { result < 65536 }
 {
     usize::from(u16::from_be_bytes([high, low]))
 }
 
 // Reads the next case to the front of the buffer. Where a read fails, the file ends.
-pub fn read_case<'a, R: Read>(file: &mut R, buf: &'a mut [u8]) -> Result<Case<'a>, NoCase> {
+pub(crate) fn read_case<'a, R: Read>(file: &mut R, buf: &'a mut [u8]) -> Result<Case<'a>, NoCase> {
     let mut head = [0; 6];
     let (came, _) = fill(file, &mut head);
     if came == 0 {

@@ -4,7 +4,6 @@ use mathlib.Core.Path.{◌≡◌, refl, sym, ap, ◌∙◌, subst}
 use mathlib.Core.Bool.{Bool, true, false, not}
 use mathlib.Core.List.{List}
 use Prim.Native.Nat.{ℕ, ◌<◌, ◌≤◌}
-use native.Mathlib.Omega.{arith}
 use lib.ListN.{length}
 use lib.Dec.{eqb}
 use borrow.Author.Tests.{lt-ltb, le-ltb, eq-eqb, ne_eqb}
@@ -16,7 +15,7 @@ use Rattle.plan.specs.Faults.{lines, references_right, field_right, checked}
 use Rattle.plan.proofs.Checked.{checked_is}
 use Rattle.storage.specs.Stored.{stored_expr, stored_step, stored_exprs, stored_steps, StepsHeld}
 use Rattle.storage.proofs.Laws.{length_table}
-use Rattle.reading.specs.Held.{ExprsHeld, sheet}
+use Rattle.reading.specs.Held.{sheet}
 use Rattle.reading.specs.Lines.{Sound}
 use Rattle.reading.specs.Plan.{plan_of, checked_plan, PlanIs}
 use Rattle.reading.specs.declared.lines.LineCounts.{LineCounts}
@@ -113,9 +112,6 @@ module _ (s : List ℕ) (h : length s ≤ 16384) where
   good_lines sh e = whole (done sh) e
 
 -- what sound bytes hold
-pub held_exprs : {es ps : List ℕ} {t : LineCounts} → Sound es ps t → ExprsHeld es t.exprs
-held_exprs s = record { few = (let h = s.few_exprs in omega arith); formed = s.exprs }
-
 pub held_steps : {es ps : List ℕ} {t : LineCounts} → Sound es ps t → length ps ≡ 1024 → StepsHeld ps t.steps
 held_steps s size = record { few = s.few_steps; size = size; formed = s.steps }
 

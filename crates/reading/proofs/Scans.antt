@@ -11,9 +11,8 @@ use lib.Seq.{drop-drop, get_or-take, get_or-drop, take-add}
 use native.Mathlib.Decide.{dec_le}
 use borrow.Author.Tests.{ne_eqb}
 use Rattle.plan.specs.declared.aexpr.AExpr.{AExpr}
-use Rattle.plan.specs.declared.ir.IR.{IR}
-use Rattle.plan.specs.Kinds.{aexprs, aexpr, aexpr_number, irs, ir, ir_number}
-use Rattle.plan.proofs.KindNumbers.{aexpr_there, ir_there}
+use Rattle.plan.specs.Kinds.{aexprs, aexpr, aexpr_number, ir}
+use Rattle.plan.proofs.KindNumbers.{aexpr_there}
 use Rattle.std.specs.List.{list_all, range_with_len}
 use Rattle.plan.specs.Lists.{all?, numbered}
 use Rattle.plan.specs.Sheet.{expr_of, step_of}
@@ -110,13 +109,6 @@ module _ (ps : List ℕ) (i : ℕ) where
       ∙ ap (λ l. take (count_of 5 ps i) (drop (i * 32 + 7 + count_of 4 ps i) ps) ++ take (count_of 6 ps i) l) (drop-drop (count_of 5 ps i) (i * 32 + 7 + count_of 4 ps i) ps)))
 
 -- a kind by its number, but the first, which stands for what is past the table too
-pub step_kind_is : (k n : ℕ) → 0 < n → n < 19 → eqb (ir_number (ir k)) n ≡ eqb k n
-step_kind_is k n h l = by (dec_le 19 k)
-  where
-    by : Dec (19 ≤ k) → eqb (ir_number (ir k)) n ≡ eqb k n
-    by (yes m) = rw (ap ir_number (get_or-eq_default irs IR.Scan m)) (ne_eqb 0 n (λ e. omega arith) ∙ sym (ne_eqb k n (λ e. omega arith)))
-    by (no m) = ap (λ j. eqb j n) (ir_there k (omega arith))
-
 pub expr_kind_is : (k n : ℕ) → 0 < n → n < 25 → eqb (aexpr_number (aexpr k)) n ≡ eqb k n
 expr_kind_is k n h l = by (dec_le 25 k)
   where

@@ -7,7 +7,7 @@ use native.Mathlib.Decide.{ℕ_discrete}
 use mathlib.Core.Bool.{Bool, true, false}
 use mathlib.Core.List.{List, [], ◌∷◌, ◌++◌}
 use lib.ListN.{length, get_or, set, length-append}
-use lib.Seq.{get_or-set_same, get_or-set_other, set-get_or}
+use lib.Seq.{set-get_or}
 use Rattle.plan.specs.Sheet.{Expr, Step, no_expr, no_step, expr_at, step_at}
 use Rattle.plan.specs.Look.{switched_off}
 use Rattle.storage.specs.Stored.{stored_expr, held_expr, arena_of, ExprFormed}
@@ -67,14 +67,6 @@ module _ (a : Arena) (q : ℕ) (more : a.records.count < 128) (lower : q < a.rec
         falls = λ l h. falls_more l h (ℕ_discrete l n);
         sorted = λ l h. sorted_more l h (ℕ_discrete l n);
       }
-
--- a line that holds its own record still holds none above it
-pub below_more : (l : Lines) (n p : ℕ) → n < 128 → p < 128 → get_or (set l.holds n n) p 0 ≤ p
-below_more l n p few h = by (ℕ_discrete p n)
-  where
-    by : Dec (p ≡ n) → get_or (set l.holds n n) p 0 ≤ p
-    by (yes e) = omega (arith, ap (λ (k : ℕ). get_or (set l.holds n n) k 0) e, get_or-set_same l.holds n n 0 (omega (arith, l.sized)))
-    by (no e) = rw (get_or-set_other l.holds n p n 0 e) (l.below p h)
 
 -- An agg that is a scalar, and one that is not -------------------------------------------------------------------------------------
 

@@ -43,7 +43,7 @@ unfoldable pub walk_stopped : List ℕ → Run → Run
 walk_stopped [] r = r
 walk_stopped (n ∷ ns) r = or_stopped n r (simplify_ir_node_orders n r) (λ r'. walk_stopped ns r')
 
--- r is what it answers. It came to its end: `gone` are the sorts that it removed;
+-- It came to its end, and b is what it answers: `gone` are the sorts that it removed;
 pub record WalkEnds (ns : List ℕ) (before after : List ℕ → List ℕ → Run) (b : Back) : Type 0 where
   pub gone : List ℕ
   pub count : b.removed ≡ length gone

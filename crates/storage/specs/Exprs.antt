@@ -1,5 +1,5 @@
 -- What is read of a stored expression, the record of the definition that an ExprRecord is, and what is changed.
-use Rattle.std.specs.Prelude.{◌≡◌, ◌≢◌, ℕ, ◌≤◌, ◌<◌, Bool, List, length, get_or, if◌then◌else◌}
+use Rattle.std.specs.Prelude.{◌≡◌, ◌≢◌, ℕ, ◌+◌, ◌*◌, ◌≤◌, ◌<◌, Bool, List, length, get_or, if◌then◌else◌}
 use Rattle.plan.specs.Sheet.{Expr}
 use Rattle.plan.specs.Look.{switched_off}
 use Rattle.storage.specs.Stored.{stored_expr, ExprFormed}
@@ -23,6 +23,12 @@ held bytes l off = if off then switched_off (stored_expr bytes l) else stored_ex
 pub record IsHeld (bytes : List ℕ) (l : ℕ) (off : Bool) (e : ExprRecord) : Type 0 where
   pub is : record_of e ≡ held bytes l off
   pub shaped : Shaped e.children
+
+-- record l can be read
+pub record RecordHeld (bytes : List ℕ) (l : ℕ) : Type 0 where
+  pub few : l < 128
+  pub room : l * 16 + 16 ≤ length bytes
+  pub formed : ExprFormed bytes l
 
 -- record l can be copied over record p, which is behind it
 pub record Copyable (recs : List ℕ) (l p : ℕ) : Type 0 where

@@ -1,10 +1,10 @@
 // The arena written out in place: each line's record, as the line holds it when the walks end, becomes the record of that number.
 ghost use Rattle.std.specs.Prelude.{◌≡◌, ℕ, ◌<◌, ◌≤◌, length};
-ghost use Rattle.storage.specs.Stored.{stored_expr, held_expr, arena_of, stored_exprs, ExprFormed};
+ghost use Rattle.storage.specs.Stored.{stored_expr, held_expr, arena_of, stored_exprs, ExprFormed, LinesHeld};
 ghost use Rattle.storage.specs.Exprs.{Copyable, LineHeld, ExprStored};
 ghost use Rattle.storage.specs.Held.{arena_in};
 
-use crate::stored::{Arena, Lines};
+use crate::stored::Arena;
 
 // Record l over record p, which is behind it. Bytes, here and in the next two: while lines are written out their children need not fall,
 // as those of Records do.
@@ -19,33 +19,29 @@ fn copy_record(recs: &mut [u8; 2048], l: usize, p: usize)
     }
 }
 
-impl Lines {
-    // The record that line p holds; the option of an Implode that is switched off is 0.
-    fn store(&self, recs: &mut [u8; 2048], p: usize)
-        requires { LineHeld recs.old self.now.holds p }
-        ensures { ExprStored recs.old p (held_expr recs.old self.now.holds self.now.off p) recs.new }
-    {
-        let l = usize::from(self.holds[p]);
-        if l != p {
-            copy_record(recs, l, p);
-        }
-        if self.off[p] {
-            recs[p * 16 + 3] = 0;
-        }
+// The record that line p holds; the option of an Implode that is switched off is 0.
+fn store_line(recs: &mut [u8; 2048], line: &[u8; 128], off: &[bool; 128], p: usize)
+    requires { LineHeld recs.old line.now p }
+    ensures { ExprStored recs.old p (held_expr recs.old line.now off.now p) recs.new }
+{
+    let l = usize::from(line[p]);
+    if l != p {
+        copy_record(recs, l, p);
     }
+    if off[p] {
+        recs[p * 16 + 3] = 0;
+    }
+}
 
-    // The first n lines, from the last on: no line holds a later line's record, so what is still to be read is as it was.
-    fn store_all(&self, recs: &mut [u8; 2048], n: usize)
-        requires few { n ≤ 128 }
-        requires recs_sized { length recs.old ≡ 2048 }
-        requires formed { (i : ℕ) → i < n → ExprFormed recs.old i }
-        ensures stored { stored_exprs recs.new n ≡ arena_of recs.old self.now.holds self.now.off n }
-        ensures still_formed { (i : ℕ) → i < n → ExprFormed recs.new i }
-        ensures sized { length recs.new ≡ 2048 }
-    {
-        for p in (0..n).rev() {
-            self.store(recs, p);
-        }
+// The first n lines, from the last on: no line holds a later line's record, so what is still to be read is as it was.
+pub fn store_lines(recs: &mut [u8; 2048], line: &[u8; 128], off: &[bool; 128], n: usize)
+    requires { LinesHeld recs.old line.now n }
+    ensures stored { stored_exprs recs.new n ≡ arena_of recs.old line.now off.now n }
+    ensures still_formed { (i : ℕ) → i < n → ExprFormed recs.new i }
+    ensures sized { length recs.new ≡ 2048 }
+{
+    for p in (0..n).rev() {
+        store_line(recs, line, off, p);
     }
 }
 
@@ -56,6 +52,11 @@ impl Arena {
         ensures count { self.new.records.count ≡ self.old.records.count }
     {
         let records = &mut self.records;
-        self.lines.store_all(&mut records.bytes, records.count);
+        store_lines(
+            &mut records.bytes,
+            &self.lines.holds,
+            &self.lines.off,
+            records.count,
+        );
     }
 }

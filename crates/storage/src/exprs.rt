@@ -1,7 +1,7 @@
 // What is read of a stored expression: the record that a line of the arena holds.
 ghost use Rattle.std.specs.Prelude.{◌≡◌, ◌<◌};
 ghost use Rattle.storage.specs.Stored.{stored_expr};
-ghost use Rattle.storage.specs.Exprs.{IsHeld};
+ghost use Rattle.storage.specs.Exprs.{RecordHeld, IsHeld};
 
 use crate::entries::Entries;
 use crate::stored::Records;
@@ -17,34 +17,41 @@ pub struct ExprRecord {
     pub children: Entries,
 }
 
+// The record that was stored as line l, its option 0 where it was switched off. Bytes, as it asks of this record alone.
+pub fn expr_of(recs: &[u8; 2048], l: u8, off: bool) -> ExprRecord
+    requires { RecordHeld recs.now l }
+    ensures { IsHeld recs.now l off result }
+{
+    let b = (l as usize) * 16;
+    let option = pick(off, 0, recs[b + 3]);
+    ExprRecord {
+        kind: AExpr::of_number(recs[b]),
+        scalar: recs[b + 1] == 1,
+        length_preserving: recs[b + 2] == 1,
+        option,
+        children: Entries {
+            nodes: [
+                recs[b + 4],
+                recs[b + 5],
+                recs[b + 6],
+                recs[b + 7],
+                recs[b + 8],
+                recs[b + 9],
+                recs[b + 10],
+                recs[b + 11],
+            ],
+            count: recs[b + 12],
+        },
+    }
+}
+
 impl Records {
-    // The record that was stored as line l, its option 0 where it was switched off.
+    #[inline(always)]
     pub fn expr(&self, l: u8, off: bool) -> ExprRecord
         requires { l < self.now.count }
         ensures { IsHeld self.now.bytes l off result }
     {
-        let recs = &self.bytes;
-        let b = (l as usize) * 16;
-        let option = pick(off, 0, recs[b + 3]);
-        ExprRecord {
-            kind: AExpr::of_number(recs[b]),
-            scalar: recs[b + 1] == 1,
-            length_preserving: recs[b + 2] == 1,
-            option,
-            children: Entries {
-                nodes: [
-                    recs[b + 4],
-                    recs[b + 5],
-                    recs[b + 6],
-                    recs[b + 7],
-                    recs[b + 8],
-                    recs[b + 9],
-                    recs[b + 10],
-                    recs[b + 11],
-                ],
-                count: recs[b + 12],
-            },
-        }
+        expr_of(&self.bytes, l, off)
     }
 }
 
