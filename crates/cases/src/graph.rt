@@ -1,6 +1,5 @@
 // A case of the traversal graph: nothing else is asked; what is told is the number of places in two bytes, the visiting list,
 // and a consumer and a slot for each edge.
-ghost use Rattle.std.specs.Prelude.{◌≤◌};
 ghost use Rattle.claims.specs.Plan.{Plan};
 ghost use Rattle.storage.specs.Held.{steps_in};
 
@@ -11,12 +10,10 @@ use ir_graph::places::Places;
 use storage::edges::{consumer_of, slot_of};
 use storage::stored::{Edges, Steps};
 
-// Are the first n edges told, a consumer and a slot for each, and no others?
-fn edges_agree(ends: &[u8; 544], n: usize, told: &[u8]) -> bool
-    requires { n ≤ 256 }
-{
+// Are the edges told, a consumer and a slot for each, and no others?
+fn edges_agree(ends: &[u8; 544], edges: &Edges, told: &[u8]) -> bool {
     let (pairs, rest) = told.as_chunks::<2>();
-    pairs.len() == n
+    pairs.len() == edges.count
         && rest.is_empty()
         && pairs.iter().enumerate().all(|(k, pair)| {
             *pair == [consumer_of(ends, k), slot_of(ends, k)]
@@ -30,7 +27,7 @@ fn graph_agrees(steps: &Steps, made: &mut Edges, places: &[u8], edges: &[u8]) ->
     let mut list = Places::new();
     let mut ends = [0; 544];
     build_ir_traversal_graph(steps, &mut list, &mut ends, made);
-    list.as_slice() == places && edges_agree(&ends, made.count, edges)
+    list.as_slice() == places && edges_agree(&ends, made, edges)
 }
 
 // Is the sheet accepted, and does its graph have these places and these edges?

@@ -11,14 +11,8 @@ use crate::frame::{Case, two};
 use engine::read::{new_run, read_run};
 use expr::eos::Eos;
 use expr::projected::{expr_order_simplifier, simplify_projected_exprs};
-use plan::orders::ObservableOrders;
 use storage::entries::Entries;
 use storage::stored::{Arena, Records};
-
-// 1 for COLUMN and 2 for INDEPENDENT.
-fn bits(orders: ObservableOrders) -> u8 {
-    u8::from(orders.column) + 2 * u8::from(orders.independent)
-}
 
 // Is the record that was stored as line l, switched off or not, K, S, L, a and the children of what is told?
 fn record_agrees(records: &Records, l: usize, off: bool, told: &[u8]) -> bool
@@ -72,8 +66,8 @@ struct Told<'a> {
 
 // Do the answer, what was observed and the looks agree?
 fn answers_agree(s: Eos, told: Told<'_>) -> bool {
-    bits(s.answer()) == told.answer
-        && bits(s.observed()) == told.observed
+    u8::from(s.answer()) == told.answer
+        && u8::from(s.observed()) == told.observed
         && s.looks() == told.looks as u64
 }
 
@@ -85,8 +79,7 @@ fn list_agrees(arena: &mut Arena, asked: Asked, told: Told<'_>) -> bool
 {
     let mut cache = [None; 128];
     let s = simplify_projected_exprs(
-        &arena.records,
-        &mut arena.lines,
+        arena,
         &mut cache,
         expr_order_simplifier(),
         asked.list,

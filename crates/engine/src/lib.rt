@@ -17,7 +17,8 @@ use plan::refusal::Refusal;
 pub mod read; // read.rt: from bytes to a run that is to be made
 pub mod run; // run.rt: from there to the finished sheet
 
-// The definition decides the answer and every byte of the output. Demands 1 and 3 hold of every call, and what is answered fits.
+// The definition decides the answer and every byte of the output. Demands 1 and 3 hold of every call, and what is answered fits. The
+// output goes on as a slice that is long enough, since an array of 16,384 bytes would be a narrower type than `put_finished` takes.
 pub fn finish(sheet: &[u8], out: &mut [u8]) -> Result<Finished, Refusal>
     ensures out_after { call (outcome_of result) out.new ≡ plan.finish sheet.now out.old }
     ensures demand_3_kept { Demand3Kept sheet.now out.new (outcome_of result) }

@@ -22,7 +22,8 @@ fn write_run(run: &mut StoredRun, ends: &[u8; 544], removed: usize, out: &mut [u
     ensures { RunWrote (run_of run.old ends.now) removed out.old out.new result }
 {
     run.arena.write_out();
-    let records = &run.arena.records;
+    let arena = &run.arena;
+    let records = &arena.records;
     let tallies = Tallies {
         removed,
         tally: run.tally,

@@ -9,7 +9,7 @@ use mathlib.Core.Bool.{Bool, true, false, ◌&&◌}
 use mathlib.Core.List.{List, [], ◌∷◌, ◌++◌}
 use mathlib.Core.Option.{none}
 use lib.ListN.{length, get_or, drop, drop_of_length-le}
-use lib.Seq.{drop-cons, length-take-le, get_or-take}
+use lib.Seq.{drop-cons, length-take-le}
 use borrow.Author.Tests.{eqb-true}
 use Rattle.plan.specs.declared.orders.ExprOrderAcc.{ExprOrderAcc}
 use Rattle.plan.specs.declared.orders.ObservableOrders.{ObservableOrders}
@@ -107,15 +107,12 @@ module _ (recs : List ℕ) (n : ℕ) (s : State) (list : Entries) (allow : Bool)
       t_formed = formed_kept holds.formed g.kept
 
       -- the i-th
-      module _ (more : i < list.count) where
+      module _ (more : i < length entries) where
         abbrev c : ℕ
-        c = get_or list.nodes i 0
-
-        c_at : get_or entries i 0 ≡ c
-        c_at = get_or-take list.count list.nodes i 0 more
+        c = get_or entries i 0
 
         c_within : c < n
-        c_within = rw c_at at (r.falls.child i (rw length_list more))
+        c_within = r.falls.child i more
 
         c_enough : get_or t.line c 0 < n
         c_enough = lt_of_le_of_lt (t_formed.below c c_within) c_within
@@ -123,7 +120,7 @@ module _ (recs : List ℕ) (n : ℕ) (s : State) (list : Entries) (allow : Bool)
         rest_is : drop i entries ≡ c ∷ drop (i + 1) entries
         rest_is =
             let q : i + 1 ≡ suc i = omega arith in
-            rw q (drop-cons entries i 0 (rw length_list more) ∙ rw c_at)
+            rw q (drop-cons entries i 0 more)
 
         abbrev R : Tally → ObservableOrders × plan.Eos
         R tally = look n false c (eos_of tally recs n t)
@@ -146,13 +143,13 @@ module _ (recs : List ℕ) (n : ℕ) (s : State) (list : Entries) (allow : Bool)
             }
 
         pub few_entries : x.acc.num_ordered_inputs < 255
-        few_entries = omega (arith, g.begun.most, more, r.few)
+        few_entries = omega (arith, g.begun.most, more, length_list, r.few)
 
         pub list_more : (u : State) → LookGives recs n t c false u → (o : ObservableOrders) → o ≡ u.own.answer → (next : Seen) → Adds x o c i next → ListReached recs n s list u next (i + 1)
         list_more u a o o_is next adds =
             let adds_u : Adds x u.own.answer c i next = rw o_is at adds in
             record {
-              most = omega (arith, more);
+              most = omega (arith, more, length_list);
               os = g.os ++ (u.own.answer ∷ []);
               begun = begun_next n i g.os x next u.own.answer c g.begun adds_u c_within;
               kept = kept_trans g.kept a.kept;
@@ -160,7 +157,7 @@ module _ (recs : List ℕ) (n : ℕ) (s : State) (list : Entries) (allow : Bool)
             }
 
       -- after the last one
-      module _ (over : list.count ≤ i) (so_far mixed observed : ObservableOrders) (w : Own)
+      module _ (over : length entries ≤ i) (so_far mixed observed : ObservableOrders) (w : Own)
           (so_far_is : so_far ≡ t.own.observed)
           (mixed_is : mixed ≡ (if x.acc.saw_mixed_inputs then x.acc.acc else ∅))
           (observed_is : observed ≡ so_far ∪ mixed)
@@ -169,7 +166,7 @@ module _ (recs : List ℕ) (n : ℕ) (s : State) (list : Entries) (allow : Bool)
         t₁ = owning w t
 
         D_is : (tally : Tally) → D tally ≡ (g.os, x.acc, eos_of tally recs n t)
-        D_is tally = g.is tally ∙ along_no_more (look n) (drop i entries) g.os x.acc (eos_of tally recs n t) (drop_of_length-le entries {i = i} (rw length_list over))
+        D_is tally = g.is tally ∙ along_no_more (look n) (drop i entries) g.os x.acc (eos_of tally recs n t) (drop_of_length-le entries {i = i} over)
 
         t₁_is : (tally : Tally) → internal_observe (if x.acc.saw_mixed_inputs then x.acc.acc else ∅) (eos_of tally recs n t) ≡ eos_of tally recs n t₁
         t₁_is tally = rw (w_is, observed_is, so_far_is, mixed_is) (sym (eos_observing tally recs n t _))

@@ -31,8 +31,7 @@ use Rattle.expr.specs.Seen.{none_seen, Adds}
 use Rattle.expr.specs.Cache.{cache_of}
 use Rattle.storage.specs.Exprs.{record_of, held}
 use Rattle.storage.specs.Based.{Based}
-use Rattle.storage.specs.declared.stored.Records.{Records}
-use Rattle.storage.specs.declared.stored.Lines.{Lines}
+use Rattle.storage.specs.declared.stored.Arena.{Arena}
 use Rattle.expr.specs.State.{State, eos_of, Sized, Kept}
 use Rattle.expr.specs.Tables.{after_of}
 use Rattle.expr.specs.Contract.{looked_of, ended_by, Ended, Begun}
@@ -52,20 +51,17 @@ pub record Formed (n : ℕ) (s : State) : Type 0 where
 pub formed_kept : {n : ℕ} {s r : State} → Formed n s → Kept s r → Formed n r
 formed_kept f k = record { sized = k.sized f.sized; below = λ q h. le_trans (k.lower q) (f.below q h) }
 
--- what the types say of the records and the lines, and the cache's length
+-- what the arena's type says, and the cache's length
 pub record Holds (recs : List ℕ) (n : ℕ) (s : State) : Type 0 where
   pub based : Based recs n
   pub formed : Formed n s
 
-pub holds : (records : Records) (lines : Lines) {cache : List (Option ObservableOrders)} {own : Own} → length cache ≡ 128
-    → Holds records.bytes records.count (record { line = lines.holds; off = lines.off; cache = cache; own = own })
-holds records lines cached =
+pub holds : (a : Arena) {cache : List (Option ObservableOrders)} {own : Own} → length cache ≡ 128
+    → Holds a.records.bytes a.records.count (record { line = a.lines.holds; off = a.lines.off; cache = cache; own = own })
+holds a cached =
     record {
-      based = records.based;
-      formed = record {
-        sized = record { line = lines.sized; off = lines.off_sized; cache = cached };
-        below = λ q h. lines.below q (omega (arith, records.based.few));
-      };
+      based = a.records.based;
+      formed = record { sized = record { line = a.lines.sized; off = a.lines.off_sized; cache = cached }; below = a.below };
     }
 
 -- The changes of the code's state ------------------------------------------------------------------------------------------------

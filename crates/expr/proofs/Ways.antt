@@ -25,7 +25,8 @@ use Rattle.plan.specs.Look as plan
 use Rattle.storage.specs.Stored.{stored_expr}
 use Rattle.expr.specs.declared.after.After.{After}
 use Rattle.storage.specs.declared.exprs.ExprRecord.{ExprRecord}
-use Rattle.expr.specs.Cache.{entry_of, cache_of}
+use Rattle.plan.specs.Refusals.{option_of}
+use Rattle.expr.specs.Cache.{cache_of}
 use Rattle.storage.specs.Exprs.{record_of, held, IsHeld}
 use Rattle.storage.specs.Based.{Falls, sorts, Based}
 use Rattle.expr.specs.State.{State, eos_of, Kept, Readable, preserves, is_replaced_line}
@@ -155,11 +156,11 @@ module _ (recs : List ℕ) (n : ℕ) (s : State) (p : ℕ) (allow : Bool) (holds
       abbrev asked : Tally → definition.Option ObservableOrders
       asked tally = check_return_cached (before E allow e.kind) p (one_look (S tally))
 
-      either : (c : Bool) (entry : Option ObservableOrders) → entry_of (if c then entry else None) ≡ (if c then entry_of entry else definition.none)
+      either : (c : Bool) (entry : Option ObservableOrders) → option_of (if c then entry else None) ≡ (if c then option_of entry else definition.none)
       either true entry = refl
       either false entry = refl
 
-      asked_is : (hit : Option ObservableOrders) → hit ≡ (if b.checks then get_or s.cache p None else None) → (tally : Tally) → asked tally ≡ entry_of hit
+      asked_is : (hit : Option ObservableOrders) → hit ≡ (if b.checks then get_or s.cache p None else None) → (tally : Tally) → asked tally ≡ option_of hit
       unfolding check_return_cached cache_of
       asked_is hit h tally = rw (← b_is, eos_cache tally recs n s, h) (sym (either b.checks (get_or s.cache p None)))
 
@@ -172,11 +173,11 @@ module _ (recs : List ℕ) (n : ℕ) (s : State) (p : ℕ) (allow : Bool) (holds
           hit_is tally zero i = absurd (omega arith)
           hit_is tally (suc f) i =
               rw (eos_answering tally recs n (counted s) o, eos_counted tally recs n s)
-              (sym (look_hit f allow p (S tally) E (E_is tally) o (asked_is hit q tally ∙ ap entry_of h)))
+              (sym (look_hit f allow p (S tally) E (E_is tally) o (asked_is hit q tally ∙ ap option_of h)))
 
       module _ (hit : Option ObservableOrders) (hit_is : hit ≡ (if b.checks then get_or s.cache p None else None)) (miss : hit ≡ None) where
         asked_none : (tally : Tally) → asked tally ≡ definition.none
-        asked_none tally = asked_is hit hit_is tally ∙ ap entry_of miss
+        asked_none tally = asked_is hit hit_is tally ∙ ap option_of miss
 
         -- the first child's record takes the place of e
         module _ (x : Bool) (x_is : x ≡ is_replaced_line recs s.line E allow) (taken : x ≡ true) (c : ℕ) (c_is : c ≡ get_or E.children 0 0) where

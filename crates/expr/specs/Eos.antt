@@ -1,15 +1,8 @@
 -- What the looks of a visit own of ExprOrderSimplifier, out of the number that holds it.
-use Rattle.std.specs.Prelude.{ℕ, ◌+◌, ◌/◌, ◌%◌, eqb, leb, if◌then◌else◌}
+use Rattle.std.specs.Prelude.{ℕ, ◌+◌, ◌/◌, ◌%◌}
 use Rattle.plan.specs.declared.orders.ObservableOrders.{ObservableOrders}
-use Rattle.plan.specs.Orders.{∅}
+use Rattle.plan.specs.Orders.{∅, orders_of}
 use Rattle.expr.specs.declared.eos.Eos.{Eos}
-
--- an order set as a number: 1 for COLUMN and 2 for INDEPENDENT
-abbrev pub code : ObservableOrders → ℕ
-code o = if o.column then (if o.independent then 3 else 1) else (if o.independent then 2 else 0)
-
-abbrev pub orders : ℕ → ObservableOrders
-orders c = record { column = eqb (c % 2) 1; independent = leb 2 c }
 
 pub record Own : Type 0 where
   pub looks : ℕ  -- of this visit
@@ -21,9 +14,9 @@ unfoldable pub own_of : Eos → Own
 own_of s =
     record {
       looks = s.bits / 64;
-      field = orders (s.bits / 16 % 4);
-      observed = orders (s.bits / 4 % 4);
-      answer = orders (s.bits % 4);
+      field = orders_of (s.bits / 16 % 4);
+      observed = orders_of (s.bits / 4 % 4);
+      answer = orders_of (s.bits % 4);
     }
 
 -- Its changes --------------------------------------------------------------------------------------------------------------------

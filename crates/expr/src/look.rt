@@ -8,7 +8,8 @@ ghost use Rattle.plan.specs.declared.aexpr.AExpr.{AExpr};
 ghost use Rattle.expr.specs.Tables.{after_of};
 ghost use Rattle.storage.specs.Entries.{list_of, Shaped};
 ghost use Rattle.storage.specs.Exprs.{record_of};
-ghost use Rattle.expr.specs.State.{state, preserves, is_replaced_line, Readable};
+ghost use Rattle.storage.specs.Held.{SameRecords};
+ghost use Rattle.expr.specs.State.{state, state_in, preserves, is_replaced_line, Readable};
 ghost use Rattle.expr.specs.Eos.{own_of, with_field};
 ghost use Rattle.expr.specs.Contract.{walked, Ended, LookAsks, LookGives, AgainAsks, AgainGives, EndAsks, AlongAsks, AlongGives};
 
@@ -23,7 +24,7 @@ use plan::looks::Before;
 use plan::orders::ObservableOrders;
 use storage::entries::Entries;
 use storage::exprs::{ExprRecord, is_length_preserving};
-use storage::stored::{Lines, Records};
+use storage::stored::{Arena, Lines};
 
 #[derive(Clone, Copy)]
 pub struct Walk {
@@ -32,12 +33,12 @@ pub struct Walk {
 }
 
 // Do all of them preserve length?
-fn length_preserving(records: &Records, lines: &Lines, children: Entries) -> bool
-    requires { Shaped children × Readable lines.now.holds (list_of children) }
-    ensures { result ≡ all? (preserves records.now.bytes lines.now.holds) (list_of children) }
+fn length_preserving(arena: &Arena, children: Entries) -> bool
+    requires { Shaped children × Readable arena.now.lines.holds (list_of children) }
+    ensures { result ≡ all? (preserves arena.now.records.bytes arena.now.lines.holds) (list_of children) }
 {
-    let recs = &records.bytes;
-    let line = &lines.holds;
+    let recs = &arena.records.bytes;
+    let line = &arena.lines.holds;
     children
         .as_slice()
         .iter()
@@ -45,13 +46,13 @@ fn length_preserving(records: &Records, lines: &Lines, children: Entries) -> boo
 }
 
 // Does the first child's record take the place of e?
-fn is_replaced(records: &Records, lines: &Lines, e: ExprRecord, allow: bool) -> bool
-    requires { Shaped e.children × Readable lines.now.holds (record_of e).children }
-    ensures { result ≡ is_replaced_line records.now.bytes lines.now.holds (record_of e) allow }
+fn is_replaced(arena: &Arena, e: ExprRecord, allow: bool) -> bool
+    requires { Shaped e.children × Readable arena.now.lines.holds (record_of e).children }
+    ensures { result ≡ is_replaced_line arena.now.records.bytes arena.now.lines.holds (record_of e) allow }
 {
     allow
         && (e.kind == AExpr::Sort
-            || e.kind == AExpr::SortBy && length_preserving(records, lines, e.children))
+            || e.kind == AExpr::SortBy && length_preserving(arena, e.children))
 }
 
 // An Implode over nothing ordered no longer maintains order.
@@ -106,66 +107,71 @@ fn look_ended(
 }
 
 // A look at p. allow: is de-ordering allowed?
+// The cache and the number go beside the arena: the cache lasts for one visit, so that a struct of the two would be made for each, of two
+// lent things; and the number goes by value, since a struct of its four fields, tried on 2026-11-26, took 34.3 ns for 27.2 on the
+// longest chain of looks.
 #[cycle(look_look_again_look_along)]
 pub fn look(
-    records: &Records,
-    lines: &mut Lines,
+    arena: &mut Arena,
     cache: &mut [Option<ObservableOrders>; 128],
     s: Eos,
     p: usize,
     allow: bool,
 ) -> Eos
-    requires { LookAsks records.now.bytes records.now.count (state lines.old.holds lines.old.off cache.old s) p allow }
-    ensures { LookGives records.now.bytes records.now.count (state lines.old.holds lines.old.off cache.old s) p allow (state lines.new.holds lines.new.off cache.new result) }
+    requires { LookAsks arena.old.records.bytes arena.old.records.count (state_in arena.old cache.old s) p allow }
+    ensures looked { LookGives arena.old.records.bytes arena.old.records.count (state_in arena.old cache.old s) p allow (state_in arena.new cache.new result) }
+    ensures records { SameRecords arena.old.records arena.new.records }
 {
     let t = s.looked();
     let field = t.field();
-    let l = lines.holds[p];
+    let found = &*arena;
+    let l = found.lines.holds[p];
     let at = (l as usize) * 16;
-    let base = &records.bytes;
+    let base = &found.records.bytes;
     if base[at + 12] == 0 {
         if let Some(answer) = leaf(AExpr::of_number(base[at]), base[at + 1] == 1, field) {
             return t.with_answer(answer);
         }
     }
     let entry = cache[p];
-    let e = records.expr(l, lines.off[p]);
+    let e = found.records.expr(l, found.lines.off[p]);
     let b = before_of(e, allow);
     let hit = pick(b.checks, entry, None);
     if let Some(answer) = hit {
         return t.with_answer(answer);
     }
-    if is_replaced(records, lines, e, allow) {
+    if is_replaced(found, e, allow) {
         let c = e.children.first() as usize;
-        let l1 = lines.holds[c];
-        let off1 = lines.off[c];
+        let l1 = found.lines.holds[c];
+        let off1 = found.lines.off[c];
+        let lines = &mut arena.lines;
         lines.holds[p] = l1;
         lines.off[p] = off1;
-        return look(records, lines, cache, t, p, allow);
+        return look(arena, cache, t, p, allow);
     }
-    let w = look_along(records, lines, cache, t, e, b);
+    let w = look_along(arena, cache, t, e, b);
     let seen = w.seen;
     let v = After::of(e, allow, field, seen);
     let node = seen.acc.last_ordered_node;
-    let u = look_again(records, lines, cache, w.state, v, node);
-    look_ended(lines, cache, u, p, e, v, field, seen.first)
+    let u = look_again(arena, cache, w.state, v, node);
+    look_ended(&mut arena.lines, cache, u, p, e, v, field, seen.first)
 }
 
 // The single ordered child once more, if v says so: with the answer of the record that v is of.
 #[cycle(look_look_again_look_along)]
 fn look_again(
-    records: &Records,
-    lines: &mut Lines,
+    arena: &mut Arena,
     cache: &mut [Option<ObservableOrders>; 128],
     s: Eos,
     v: After,
     node: u8,
 ) -> Eos
-    requires { AgainAsks records.now.bytes records.now.count (state lines.old.holds lines.old.off cache.old s) v node }
-    ensures { AgainGives records.now.bytes records.now.count (state lines.old.holds lines.old.off cache.old s) v node (state lines.new.holds lines.new.off cache.new result) }
+    requires { AgainAsks arena.old.records.bytes arena.old.records.count (state_in arena.old cache.old s) v node }
+    ensures looked { AgainGives arena.old.records.bytes arena.old.records.count (state_in arena.old cache.old s) v node (state_in arena.new cache.new result) }
+    ensures records { SameRecords arena.old.records arena.new.records }
 {
     if v.again {
-        let again = look(records, lines, cache, s, node as usize, true);
+        let again = look(arena, cache, s, node as usize, true);
         let output = v.answer_again;
         return again.with_answer(output.of(v.answer, again.answer()));
     }
@@ -176,21 +182,21 @@ fn look_again(
 // record of one child is a tenth slower without.
 #[cycle(look_look_again_look_along)]
 fn look_along(
-    records: &Records,
-    lines: &mut Lines,
+    arena: &mut Arena,
     cache: &mut [Option<ObservableOrders>; 128],
     s: Eos,
     e: ExprRecord,
     b: Before,
 ) -> Walk
-    requires { AlongAsks records.now.bytes records.now.count (state lines.old.holds lines.old.off cache.old s) e b }
-    ensures { AlongGives records.now.bytes records.now.count (state lines.old.holds lines.old.off cache.old s) e b (walked (state lines.new.holds lines.new.off cache.new result.state) result.seen) }
+    requires { AlongAsks arena.old.records.bytes arena.old.records.count (state_in arena.old cache.old s) e b }
+    ensures looked { AlongGives arena.old.records.bytes arena.old.records.count (state_in arena.old cache.old s) e b (walked (state_in arena.new cache.new result.state) result.seen) }
+    ensures records { SameRecords arena.old.records arena.new.records }
 {
     let mut t = s;
     let mut seen = Seen::new();
     for i in 0..e.children.count {
         let c = child_of(&e.children, b.turned, i);
-        let u = look(records, lines, cache, t, c as usize, mode(b, i));
+        let u = look(arena, cache, t, c as usize, mode(b, i));
         seen = seen.add(u.answer(), c, i);
         t = enter_struct(u, e.kind, i);
     }

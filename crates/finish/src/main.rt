@@ -7,7 +7,7 @@ ghost use Rattle.plan.specs.Refusals.{outcome_of};
 
 use plan::answer::Finished;
 use plan::refusal::Refusal;
-use streams::{has_argument, read_input, write_front};
+use streams::{has_argument, read_input, write_out};
 use writing::lines::put_refusal;
 
 // Did all of the answer go out?
@@ -15,11 +15,11 @@ fn put_answer(rt: &(impl Print + Eprint), answer: Result<Finished, Refusal>, out
     requires { answer_length (outcome_of answer) ≤ length out.now }
 {
     match answer {
-        Ok(finished) => write_front(rt, out, finished.length),
+        Ok(finished) => write_out(rt, &out[..finished.length]),
         Err(refusal) => {
             let mut line = [0; 6];
             let n = put_refusal(&mut line, refusal);
-            write_front(rt, &line, n)
+            write_out(rt, &line[..n])
         }
     }
 }
@@ -31,11 +31,11 @@ fn main(rt: HostRuntime) {
         return;
     }
     let mut sheet = [0; 16385];
-    let Some(n) = read_input(&rt, "standard input", &mut rt.stdin(), &mut sheet) else {
+    let Some(sheet) = read_input(&rt, "standard input", &mut rt.stdin(), &mut sheet) else {
         return;
     };
     // a buffer of its own: nothing here allocates
     let mut out = [0; 16384];
-    let answer = engine::finish(&sheet[..n], &mut out);
+    let answer = engine::finish(sheet, &mut out);
     put_answer(&rt, answer, &out);
 }

@@ -166,9 +166,9 @@ fn run_all(guide: &[u8]) -> Score {
 fn main(rt: HostRuntime) -> io::Result<()> {
     // a buffer of its own: nothing here allocates
     let mut buf = [0; 65536];
-    let Some(n) = read_path(&rt, b"GUIDE.md", &mut buf) else {
+    let Some(guide) = read_path(&rt, b"GUIDE.md", &mut buf) else {
         return Ok(());
     };
-    let score = run_all(&buf[..n]);
+    let score = run_all(guide);
     println!(rt; "{score}")
 }

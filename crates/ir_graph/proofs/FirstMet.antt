@@ -1,12 +1,12 @@
 -- The line of an id that is met first: going through the steps met, and the table of them.
-use mathlib.Core.Path.{◌≡◌, refl, sym, ap, ap₂, ◌∙◌}
+use mathlib.Core.Path.{◌≡◌, refl, sym, ap₂, ◌∙◌}
 use mathlib.Core.List.{List, [], ◌∷◌, ◌++◌}
 use Prim.Native.Nat.{ℕ, suc, ◌+◌, ◌≤◌, ◌<◌}
 use native.Mathlib.Numerals.{add-one}
 use mathlib.Core.Bool.{true, false, ◌&&◌}
 use lib.Dec.{eqb}
-use lib.ListN.{length, get_or, take, drop, set, drop_of_length-le}
-use lib.Seq.{drop-cons, take-suc-set}
+use lib.ListN.{length, get_or, drop, drop_of_length-le}
+use lib.Seq.{drop-cons}
 use Rattle.plan.specs.Sheet.{Step}
 use Rattle.plan.specs.Graph.{one_id, first_met, popped, key}
 use Rattle.storage.specs.Stored.{table, stored_step, stored_steps}
@@ -48,20 +48,18 @@ module _ (ps : List Step) (met : List ℕ) (m : ℕ) where
 
 -- The table ----------------------------------------------------------------------------------------------------------------------
 
-pub none_noted : (f : ℕ → ℕ) (first : List ℕ) → take 0 first ≡ table f 0 0
+pub none_noted : (f : ℕ → ℕ) → [] ≡ table f 0 0
 unfolding table
-none_noted f first = refl
+none_noted f = refl
 
-pub one_noted : (f : ℕ → ℕ) (first : List ℕ) (m v : ℕ) → m < length first → take m first ≡ table f 0 m → v ≡ f m
-    → take (m + 1) (set first m v) ≡ table f 0 (m + 1)
-one_noted f first m v h e q =
-    rw add-one (take-suc-set first m v h) ∙ ap₂ (λ (l : List ℕ) (x : ℕ). l ++ (x ∷ [])) e q ∙ sym (one_entry_more f m)
+pub one_noted : (f : ℕ → ℕ) {first : List ℕ} (m v : ℕ) → first ≡ table f 0 m → v ≡ f m → first ++ (v ∷ []) ≡ table f 0 (m + 1)
+one_noted f m v e q = ap₂ (λ (l : List ℕ) (x : ℕ). l ++ (x ∷ [])) e q ∙ sym (one_entry_more f m)
 
 pub all_noted : (bytes : List ℕ) (n : ℕ) → Plan (stored_steps bytes n) → (met first : List ℕ) (m : ℕ) → met ≡ popped (stored_steps bytes n) → m ≡ n
-    → take m first ≡ table (first_met (stored_steps bytes n) met) 0 m → take n first ≡ first_lines (stored_steps bytes n)
+    → first ≡ table (first_met (stored_steps bytes n) met) 0 m → first ≡ first_lines (stored_steps bytes n)
 unfolding first_lines
 all_noted bytes n plan met first m o e t =
-    ap (λ (k : ℕ). take k first) (sym e) ∙ t
+    t
     ∙ ap₂ (λ (l : List ℕ) (k : ℕ). table (first_met (stored_steps bytes n) l) 0 k) o (e ∙ sym (length_steps bytes n))
     ∙ same_table (first_met (stored_steps bytes n) (popped (stored_steps bytes n))) (key (stored_steps bytes n)) (length (stored_steps bytes n))
     (λ k h. sym (key_first (stored_steps bytes n) plan k))

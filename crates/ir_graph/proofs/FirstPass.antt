@@ -5,7 +5,7 @@ use mathlib.Core.Logic.{inl, inr, ◌≢◌}
 use Prim.Native.Nat.{ℕ, zero, suc, ◌+◌, ◌≤◌, ◌<◌}
 use native.Mathlib.Omega.{arith}
 use native.Mathlib.Decide.{ℕ_discrete}
-use mathlib.Core.Bool.{Bool, true, false, ◌&&◌}
+use mathlib.Core.Bool.{Bool, true, false, ◌&&◌, false≢true}
 use mathlib.Core.List.Memᴰ
 use mathlib.Core.List.{List, [], ◌∷◌, ◌++◌, reverse, reverse-append, Memᴰ}
 use lib.Dec.{T, eqb, ltb, ltb→lt, lt→ltb}
@@ -67,6 +67,11 @@ times_few n l = omega (arith, sum_le (only n) (λ _. 1) l (λ m _. by (eqb n m))
     by : (b : Bool) → (if b then 1 else 0) ≤ 1
     by true = omega arith
     by false = omega arith
+
+-- what a pop finds empty
+pub none_left : (l : List ℕ) → (0 < length l → false ≡ true) → l ≡ []
+none_left [] h = refl
+none_left (x ∷ l) h = absurd (false≢true (h (omega arith)))
 
 module _ (stored : Steps) (plan : Plan (steps_in stored)) where
   abbrev ps : List Step

@@ -10,8 +10,8 @@ use native.Mathlib.Nat.{not-suc-le-zero, le_refl}
 use native.Mathlib.Decide.{ℕ_discrete, dec_lt}
 use mathlib.Core.Bool.{Bool, true, false}
 use lib.Dec.{T}
-use lib.ListN.{length, get_or, take, set, length-map, length-set}
-use lib.Seq.{get_or-take, get_or-set_same, get_or-set_other, ext_get_or}
+use lib.ListN.{length, get_or, set, length-map, length-set}
+use lib.Seq.{get_or-set_same, get_or-set_other, ext_get_or}
 use Rattle.plan.specs.declared.ir.IR.{IR}
 use Rattle.plan.specs.Kinds.{ir_number, same_ir}
 use Rattle.plan.specs.Sheet.{Step, no_step, step_at}
@@ -66,7 +66,7 @@ module _ (first : List ℕ) (ps : List Step) (m : ℕ) where
       }
 
 -- where it is stored
-module _ (stored : Steps) (first : List ℕ) (m : ℕ) (here : m < stored.count) (u : Updatable (take stored.count first) (steps_in stored))
+module _ (stored : Steps) (first : List ℕ) (m : ℕ) (here : m < stored.count) (u : Updatable first (steps_in stored))
     (e : cached stored.bytes m ≡ true) where
   abbrev ps : List Step
   ps = steps_in stored
@@ -77,7 +77,7 @@ module _ (stored : Steps) (first : List ℕ) (m : ℕ) (here : m < stored.count)
   caches : T (is_cache ps m) × T (is_cache ps line)
   caches =
       let t = subst T (sym (cache_there stored.bytes stored.count m here ∙ e)) tt in
-      (t, subst (λ (k : ℕ). T (is_cache ps k)) (get_or-take stored.count first m 0 here) (u.cache m t))
+      (t, u.cache m t)
 
   pub line_there : line < stored.count
   line_there = omega (arith, length_steps stored.bytes stored.count, has_inputs ps line (omega (arith, u.input line caches.1)))
@@ -86,11 +86,9 @@ module _ (stored : Steps) (first : List ℕ) (m : ℕ) (here : m < stored.count)
   have_inputs = (omega (arith, u.input m caches.0), omega (arith, u.input line caches.1))
 
   pub input_updated : {v : ℕ} {qs : List Step} → v ≡ get_or (step_at ps line).inputs 0 0 → qs ≡ set ps m (with_input 0 v (step_at ps m))
-      → qs ≡ update_cache_node (take stored.count first) ps m
+      → qs ≡ update_cache_node first ps m
   input_updated same is =
-      is
-      ∙ ap (λ (v : ℕ). set ps m (with_input 0 v (step_at ps m))) (same ∙ ap (λ (k : ℕ). get_or (step_at ps k).inputs 0 0) (sym (get_or-take stored.count first m 0 here)))
-      ∙ updated (take stored.count first) ps m (cache_there stored.bytes stored.count m here ∙ e)
+      is ∙ ap (λ (v : ℕ). set ps m (with_input 0 v (step_at ps m))) same ∙ updated first ps m (cache_there stored.bytes stored.count m here ∙ e)
 
 one_entry : (xs ys : List ℕ) → length xs ≡ 1 → length ys ≡ 1 → set xs 0 (get_or ys 0 0) ≡ ys
 one_entry (x ∷ []) (y ∷ []) e f = refl

@@ -12,8 +12,9 @@ use crate::hits::count_hits;
 use crate::places::Places;
 use crate::roots::push_roots;
 use crate::stored::copy_inputs;
+use plan::ir::IR;
 use storage::edges::store_first_into;
-use storage::steps::is_cache;
+use storage::steps::is_kind;
 use storage::stored::{Edges, Steps};
 
 // The inputs that follow the place of the step i: a Cache's follow at its last place.
@@ -23,11 +24,11 @@ fn follow(steps: &[u8; 1024], i: usize, places: &mut Places, hits: &mut [u8; 32]
     requires i_bound { i < 32 }
     requires step_formed { StepFormed steps.now i }
     requires hit_left { T (cached steps.now i) → 1 ≤ get_or hits.old i 0 }
-    requires room { length places.old + length (followed_by steps.now hits.old i) ≤ 288 }
-    ensures followed { places.new ≡ places.old ++ followed_by steps.now hits.old i }
+    requires room { length places.old.items + length (followed_by steps.now hits.old i) ≤ 288 }
+    ensures followed { places.new.items ≡ places.old.items ++ followed_by steps.now hits.old i }
     ensures hit_used { hits.new ≡ used steps.now hits.old i }
 {
-    if is_cache(steps, i) {
+    if is_kind(steps, i, IR::Cache) {
         hits[i] -= 1;
         if hits[i] != 0 {
             return;
@@ -48,7 +49,7 @@ fn grow(
     requires plan { Plan (steps_in steps.now) }
     requires hits_counted { HitsCounted (steps_in steps.now) hits.old }
     requires ends_empty { (i : ℕ) → get_or ends.old i 0 ≡ 0 }
-    ensures { Built (steps_in steps.now) places.new ends.new edges.new.bytes edges.new.count }
+    ensures { Built (steps_in steps.now) places.new.items ends.new edges.new.bytes edges.new.count }
 {
     push_roots(&steps.bytes, steps.count, places);
     edges.count = 0;
@@ -76,7 +77,7 @@ pub fn build_ir_traversal_graph(
 )
     requires plan { Plan (steps_in steps.now) }
     requires ends_empty { (i : ℕ) → get_or ends.old i 0 ≡ 0 }
-    ensures { Built (steps_in steps.now) places.new ends.new edges.new.bytes edges.new.count }
+    ensures { Built (steps_in steps.now) places.new.items ends.new edges.new.bytes edges.new.count }
 {
     let mut hits: [u8; 32] = [0; 32];
     let mut met = Places::new();

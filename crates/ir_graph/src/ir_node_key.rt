@@ -3,7 +3,8 @@ ghost use Rattle.std.specs.Prelude.{◌≡◌, ◌<◌};
 ghost use Rattle.storage.specs.Stored.{stored_step};
 ghost use Rattle.ir_graph.specs.NodeKey.{node_key};
 
-use storage::steps::{cache_id, is_cache};
+use plan::ir::IR;
+use storage::steps::{cache_id, is_kind};
 
 // On an accepted sheet two steps with one key are one line (proofs/NodeKey), so the graph lets a step's line stand for its key.
 #[derive(Clone, Copy, Debug, PartialEq, Eq)]
@@ -19,7 +20,7 @@ impl IRNodeKey {
         ensures { result ≡ node_key (stored_step steps.now i) i }
     {
         let line = usize::from(i);
-        if is_cache(steps, line) {
+        if is_kind(steps, line, IR::Cache) {
             IRNodeKey::CacheId(cache_id(steps, line))
         } else {
             IRNodeKey::Node(i)

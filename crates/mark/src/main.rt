@@ -1,21 +1,19 @@
 // Marks a paper against a sheet, two files named as arguments: `right`, `wrong`, or the refusal's number, on standard output.
 #![tactic(auto)]
 
-ghost use Rattle.std.specs.Prelude.{IfSome};
-ghost use Rattle.streams.specs.Counts.{IsPrefixLen};
-
 use marking::line::put_mark;
 use std::env::Env;
 use std::fs::Files;
-use streams::{argument, has_argument, read_path, write_front};
+use streams::{argument, has_argument, read_path, write_out};
 
 // Reads the file that argument i names.
-fn read_argument<R: Env + Files + Eprint>(rt: &R, i: usize, buf: &mut [u8]) -> Option<usize>
-    ensures { IfSome result (λ n. IsPrefixLen n buf.new) }
-{
+fn read_argument<'a, R: Env + Files + Eprint>(
+    rt: &R,
+    i: usize,
+    buf: &'a mut [u8],
+) -> Option<&'a [u8]> {
     let mut path = [0; 4096];
-    let n = argument(rt, i, &mut path);
-    read_path(rt, &path[..n], buf)
+    read_path(rt, argument(rt, i, &mut path), buf)
 }
 
 // Did all of the mark's line go out?
@@ -25,7 +23,7 @@ fn print_mark(rt: &(impl Print + Eprint), sheet: &[u8], paper: &[u8]) -> bool {
     let answer = marking::mark(sheet, paper, &mut out);
     let mut line = [0; 6];
     let n = put_mark(&mut line, answer);
-    write_front(rt, &line, n)
+    write_out(rt, &line[..n])
 }
 
 // A sheet of more than 16,384 bytes is refused, and a paper of more is wrong: one byte more is all that has to be read.
@@ -35,12 +33,12 @@ fn main(rt: HostRuntime) {
         return;
     }
     let mut sheet = [0; 16385];
-    let Some(m) = read_argument(&rt, 1, &mut sheet) else {
+    let Some(sheet) = read_argument(&rt, 1, &mut sheet) else {
         return;
     };
     let mut paper = [0; 16385];
-    let Some(n) = read_argument(&rt, 2, &mut paper) else {
+    let Some(paper) = read_argument(&rt, 2, &mut paper) else {
         return;
     };
-    print_mark(&rt, &sheet[..m], &paper[..n]);
+    print_mark(&rt, sheet, paper);
 }

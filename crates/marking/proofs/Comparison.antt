@@ -1,15 +1,15 @@
 -- The comparison of a paper with the P lines and the G lines, as `compare` makes it: the front of the paper, then the rest.
 use mathlib.Core.Path.{◌≡◌, refl, sym, ap, ap₂, ◌∙◌, subst}
-use Prim.Native.Nat.{ℕ, ◌<◌, ◌-◌}
-use native.Mathlib.Omega.{arith}
-use mathlib.Core.Bool.{Bool, true, false, ◌&&◌}
+use Prim.Native.Nat.{ℕ}
+use mathlib.Core.Bool.{true, false}
 use mathlib.Core.List.{List, [], ◌∷◌, ◌++◌}
 use lib.Dec.{T, eqb, eqb_refl}
-use lib.ListN.{length, take, drop, length-append, take-append-drop}
+use lib.ListN.{length, take, drop, take-append-drop}
 use lib.Seq.{take_at, drop_at}
+use lib.Pointwise.{pointwise, bytes_decides}
 use Rattle.plan.specs.Lists.{same}
-use Rattle.plan.proofs.Booleans.{and_both, and_left, and_right, T_eq}
-use Rattle.plan.proofs.ListLaws.{same→eq, part_from}
+use Rattle.plan.proofs.Booleans.{and_both, T_eq}
+use Rattle.plan.proofs.ListLaws.{same→eq}
 use Rattle.marking.specs.declared.answer.Mark.{Mark}
 use Rattle.marking.specs.Marking.{verdict}
 
@@ -27,32 +27,27 @@ pub wrong_if_not : (x y : List ℕ) → ¬ (x ≡ y) → Mark.Wrong ≡ verdict 
 unfolding verdict
 wrong_if_not x y h = ap verdict (T_eq false (same x y) (λ t. absurd t) (λ t. h (same→eq x y t)))
 
--- Each way through `compare` -----------------------------------------------------------------------------------------------------
+differ : (x y : List ℕ) → pointwise eqb x y ≡ false → ¬ (x ≡ y)
+differ x y f e = subst T (sym ((bytes_decides x y).1 e) ∙ f) tt
+
+-- Each way through `compare`: the front of the paper against the P lines, what stands behind it against the G lines --------------------
 
 module _ (paper steps edges : List ℕ) where
-  -- what the code compares: the front of the paper with the P lines, the rest of it with the G lines
   abbrev front : List ℕ
   front = take (length steps) paper
 
-  abbrev rest : List ℕ
-  rest = take (length paper - length steps) (drop (length steps) paper)
+  abbrev behind : List ℕ
+  behind = drop (length steps) paper
 
-  pub too_short_paper : length paper < length steps → Mark.Wrong ≡ verdict (same paper (steps ++ edges))
-  too_short_paper h = wrong_if_not paper (steps ++ edges) (λ e. omega (arith, h, ap length e, length-append steps edges))
-
-  pub both_equal : (a b : Bool) → (a ≡ true → front ≡ steps) → (b ≡ true → rest ≡ edges) → (a && b) ≡ true
-      → Mark.Right ≡ verdict (same paper (steps ++ edges))
-  both_equal a b p g t =
+  pub both_equal : pointwise eqb front steps ≡ true → pointwise eqb behind edges ≡ true → Mark.Right ≡ verdict (same paper (steps ++ edges))
+  both_equal p q =
       right_if_equal paper (steps ++ edges)
-      (sym (take-append-drop (length steps) paper)
-      ∙ ap₂ (λ (x y : List ℕ). x ++ y) (p (and_left a b t)) (sym (part_from paper (length steps)) ∙ g (and_right a b t)))
+      (sym (take-append-drop (length steps) paper) ∙ ap₂ (λ (x y : List ℕ). x ++ y) ((bytes_decides front steps).0 p) ((bytes_decides behind edges).0 q))
 
-  pub one_differs : (a b : Bool) → (front ≡ steps → a ≡ true) → (rest ≡ edges → b ≡ true) → (a && b) ≡ false
-      → Mark.Wrong ≡ verdict (same paper (steps ++ edges))
-  one_differs a b p g f =
-      wrong_if_not paper (steps ++ edges)
-      (λ e.
-      let in_front : front ≡ steps = ap (take (length steps)) e ∙ take_at steps edges (length steps) refl in
-      let behind : rest ≡ edges = part_from paper (length steps) ∙ ap (drop (length steps)) e ∙ drop_at steps edges (length steps) refl in
-      let both : (a && b) ≡ true = ap₂ ◌&&◌ (p in_front) (g behind) in
-      subst T (sym both ∙ f) tt)
+  pub steps_differ : pointwise eqb front steps ≡ false → Mark.Wrong ≡ verdict (same paper (steps ++ edges))
+  steps_differ f =
+      wrong_if_not paper (steps ++ edges) (λ e. differ front steps f (ap (take (length steps)) e ∙ take_at steps edges (length steps) refl))
+
+  pub edges_differ : pointwise eqb behind edges ≡ false → Mark.Wrong ≡ verdict (same paper (steps ++ edges))
+  edges_differ f =
+      wrong_if_not paper (steps ++ edges) (λ e. differ behind edges f (ap (drop (length steps)) e ∙ drop_at steps edges (length steps) refl))

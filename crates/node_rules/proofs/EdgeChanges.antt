@@ -14,7 +14,7 @@ use Rattle.plan.specs.declared.rules.Loosened.{Loosened}
 use Rattle.plan.specs.Visit.{is_into, is_out_of, loosened, relinked}
 use Rattle.storage.specs.Edges.{producer_of, stored_edge, stored_edges, with_mark, with_producer, loosened_if, produced_if, EdgeChanged}
 use Rattle.storage.proofs.Laws.{same_table}
-use Rattle.node_rules.specs.declared.around.InEdges.{InEdges}
+use Rattle.node_rules.specs.declared.in_edges.InEdges.{InEdges}
 use Rattle.node_rules.specs.Held.{InRun, ins_of, outs_of, handed_on, cut_off}
 use Rattle.node_rules.proofs.EdgeLaws.{map_table}
 use Rattle.node_rules.proofs.InEdges.{inside, outside}
@@ -69,20 +69,20 @@ module _ (ends old now : List ℕ) (len : ℕ) (few : len ≤ 256) where
   all_changed change i h c = each_edge change (λ j k. c.done j (omega arith) (omega arith) (omega arith))
 
   -- the edges into n, which are the run d
-  pub run_changed : (n : ℕ) (d : InEdges) → InRun ends len n d → (change whole : Edge → Edge)
-      → ((e : Edge) → is_into n e ≡ true → change e ≡ whole e) → ((e : Edge) → is_into n e ≡ false → e ≡ whole e)
+  pub run_changed : (d : InEdges) → InRun ends len d → (change whole : Edge → Edge)
+      → ((e : Edge) → is_into d.of e ≡ true → change e ≡ whole e) → ((e : Edge) → is_into d.of e ≡ false → e ≡ whole e)
       → (i : ℕ) → d.to ≤ i → i ≤ d.to → Changed change ends old now d.from i
       → stored_edges ends now len ≡ map whole (stored_edges ends old len)
   unfolding stored_edge
-  run_changed n d run change whole those others i a b c = each_edge whole (λ j h. by j h (dec_lt j d.from) (dec_lt j d.to))
+  run_changed d run change whole those others i a b c = each_edge whole (λ j h. by j h (dec_lt j d.from) (dec_lt j d.to))
     where
       out : (j : ℕ) → j < len → (j < d.from) ⊎ (d.to ≤ j) → (j < d.from) ⊎ (i ≤ j) → stored_edge ends now j ≡ whole (stored_edge ends old j)
-      out j h x y = c.rest j (omega arith) y ∙ others (stored_edge ends old j) (outside ends old len n d run j h x)
+      out j h x y = c.rest j (omega arith) y ∙ others (stored_edge ends old j) (outside ends old len d run j h x)
 
       by : (j : ℕ) → j < len → Dec (j < d.from) → Dec (j < d.to) → stored_edge ends now j ≡ whole (stored_edge ends old j)
       by j h (yes x) y = out j h (inl x) (inl x)
       by j h (no x) (yes y) =
-          c.done j (omega arith) (omega (arith, x)) (omega (arith, y)) ∙ those (stored_edge ends old j) (inside ends old len n d run j (omega (arith, x)) y)
+          c.done j (omega arith) (omega (arith, x)) (omega (arith, y)) ∙ those (stored_edge ends old j) (inside ends old len d run j (omega (arith, x)) y)
       by j h (no x) (no y) = out j h (inr (omega (arith, y))) (inr (omega (arith, y)))
 
 -- Loosened ---------------------------------------------------------------------------------------------------------------------------
@@ -153,13 +153,13 @@ pub both_changed : {f g : Edge → Edge} {ends : List ℕ} {k : ℕ} {l l' l'' :
     → EdgeChanged (λ d. g (f d)) ends k l l''
 both_changed {g = g} s s' = record { here = s'.here ∙ ap g s.here; elsewhere = λ j h d. s'.elsewhere j h d ∙ s.elsewhere j h d }
 
-module _ (ends old now : List ℕ) (len n : ℕ) (few : len ≤ 256) (d : InEdges) (run : InRun ends len n d) (i : ℕ) (h : d.to ≤ i) (h' : i ≤ d.to) where
+module _ (ends old now : List ℕ) (len : ℕ) (few : len ≤ 256) (d : InEdges) (run : InRun ends len d) (i : ℕ) (h : d.to ≤ i) (h' : i ≤ d.to) where
   pub ins_loosened : (l : Loosened) → Changed (in_loosened l) ends old now d.from i
-      → stored_edges ends now len ≡ map (loosened n (ins_of l)) (stored_edges ends old len)
+      → stored_edges ends now len ≡ map (loosened d.of (ins_of l)) (stored_edges ends old len)
   ins_loosened l c =
-      run_changed ends old now len few n d run (in_loosened l) (loosened n (ins_of l))
-      (λ e t. ap (λ (u : Bool). with_mark u e) (those (is_into n e) (is_out_of n e) e.unordered (if eqb e.slot 0 then l.in0 else l.later) t))
-      (λ e f. ap (λ (u : Bool). with_mark u e) (others (is_into n e) (is_out_of n e) e.unordered (if eqb e.slot 0 then l.in0 else l.later) f))
+      run_changed ends old now len few d run (in_loosened l) (loosened d.of (ins_of l))
+      (λ e t. ap (λ (u : Bool). with_mark u e) (those (is_into d.of e) (is_out_of d.of e) e.unordered (if eqb e.slot 0 then l.in0 else l.later) t))
+      (λ e f. ap (λ (u : Bool). with_mark u e) (others (is_into d.of e) (is_out_of d.of e) e.unordered (if eqb e.slot 0 then l.in0 else l.later) f))
       i h h' c
     where
       those : (i o u x : Bool) → i ≡ true → (u || x) ≡ (u || (i && x) || (o && false))
@@ -172,8 +172,8 @@ module _ (ends old now : List ℕ) (len n : ℕ) (few : len ≤ 256) (d : InEdge
       others i true false x f = rw f
       others i false false x f = rw f
 
-  pub ins_cut_off : Changed in_cut_off ends old now d.from i → stored_edges ends now len ≡ map (cut_off n) (stored_edges ends old len)
-  ins_cut_off c = run_changed ends old now len few n d run in_cut_off (cut_off n) (λ e t. rw (t, or-true e.unordered)) (λ e f. rw f) i h h' c
+  pub ins_cut_off : Changed in_cut_off ends old now d.from i → stored_edges ends now len ≡ map (cut_off d.of) (stored_edges ends old len)
+  ins_cut_off c = run_changed ends old now len few d run in_cut_off (cut_off d.of) (λ e t. rw (t, or-true e.unordered)) (λ e f. rw f) i h h' c
 
 -- Both ways --------------------------------------------------------------------------------------------------------------------------
 

@@ -14,12 +14,11 @@ use lib.Seq.{drop-cons, drop-length}
 use Rattle.plan.specs.Lists.{all?, select}
 use Rattle.plan.specs.Graph.{Edge}
 use Rattle.storage.specs.Stored.{table}
-use Rattle.storage.proofs.Laws.{length_table, table_at, one_entry_more}
+use Rattle.storage.proofs.Laws.{length_table, table_at}
 use Rattle.plan.specs.Visit.{is_out_of, no_edge, out_edge, outs_unordered}
 use Rattle.claims.specs.Demand3.{leaving_among}
 use Rattle.claims.proofs.Edges.{out_edge_at}
 use Rattle.storage.specs.Edges.{mark, stored_edge, stored_edges}
-use Rattle.node_rules.proofs.EdgeLaws.{all_last}
 
 module _ (ends edges : List ℕ) (len n : ℕ) where
   abbrev edge : ℕ → Edge
@@ -81,7 +80,7 @@ module _ (ends edges : List ℕ) (len n : ℕ) where
   -- All of them ------------------------------------------------------------------------------------------------------------------------
 
   -- an edge that is none of them, or is unordered
-  abbrev loose : Edge → Bool
+  abbrev pub loose : Edge → Bool
   loose d = d.unordered || not (is_out_of n d)
 
   all_selected : (l : List Edge) → all? (λ (d : Edge). d.unordered) (select (is_out_of n) l) ≡ all? loose l
@@ -97,20 +96,10 @@ module _ (ends edges : List ℕ) (len n : ℕ) where
       by true e = ap₂ (λ (x y : Bool). x && y) (sym (or-false d.unordered)) e
       by false e = rw (or-true d.unordered) e
 
-  -- the first k are gone through
-  abbrev pub LooseTo : ℕ → Bool → Type 0
-  LooseTo k r = r ≡ all? loose (table edge 0 k)
-
-  pub loose_none : LooseTo 0 true
-  unfolding table all?
-  loose_none = refl
-
-  pub loose_next : (k : ℕ) (r u o : Bool) → u ≡ mark edges k → o ≡ is_out_of n (edge k) → LooseTo k r → LooseTo (k + 1) (r && (u || not o))
+  pub loose_is : (k : ℕ) → loose (edge k) ≡ (mark edges k || not (is_out_of n (edge k)))
   unfolding stored_edge
-  loose_next k r u o e f v =
-      ap₂ (λ (x y : Bool). x && (y || not o)) v e ∙ ap (λ (x : Bool). all? loose (table edge 0 k) && (mark edges k || not x)) f
-      ∙ sym (ap (all? loose) (one_entry_more edge k) ∙ all_last loose (table edge 0 k) (edge k))
+  loose_is k = refl
 
-  pub outs_are : (k : ℕ) (r : Bool) → k ≡ len → LooseTo k r → r ≡ outs_unordered n ds
+  pub outs_are : (r : Bool) → r ≡ all? loose (table edge 0 len) → r ≡ outs_unordered n ds
   unfolding outs_unordered stored_edges
-  outs_are k r i v = v ∙ ap (λ (m : ℕ). all? loose (table edge 0 m)) i ∙ sym (all_selected (table edge 0 len))
+  outs_are r v = v ∙ sym (all_selected (table edge 0 len))

@@ -7,7 +7,7 @@ use Rattle.storage.specs.Stored.{table}
 use Rattle.plan.specs.declared.rules.Loosened.{Loosened}
 use Rattle.plan.specs.Visit as Visit
 use Rattle.storage.specs.Edges.{mark}
-use Rattle.node_rules.specs.declared.around.InEdges.{InEdges}
+use Rattle.node_rules.specs.declared.in_edges.InEdges.{InEdges}
 
 -- The edges of a step among all ------------------------------------------------------------------------------------------------------
 
@@ -18,17 +18,11 @@ pub record Among (len n : ℕ) : Type 0 where
 
 -- The edges into a step --------------------------------------------------------------------------------------------------------------
 
--- the edges into step n are those from one number up to another
-pub record InRun (ends : List ℕ) (len n : ℕ) (d : InEdges) : Type 0 where
-  pub order : d.from ≤ d.to
+-- the edges into step d.of are those from one number up to another
+pub record InRun (ends : List ℕ) (len : ℕ) (d : InEdges) : Type 0 where
   pub fits : d.to ≤ len
-  pub into : (k : ℕ) → k < len → get_or ends k 0 ≡ n → (d.from ≤ k) × (k < d.to)
-  pub all : (k : ℕ) → d.from ≤ k → k < d.to → get_or ends k 0 ≡ n
-
--- the run is one of the first `len` edges
-pub record RunFits (len : ℕ) (d : InEdges) : Type 0 where
-  pub order : d.from ≤ d.to
-  pub fits : d.to ≤ len
+  pub into : (k : ℕ) → k < len → get_or ends k 0 ≡ d.of → (d.from ≤ k) × (k < d.to)
+  pub all : (k : ℕ) → d.from ≤ k → k < d.to → get_or ends k 0 ≡ d.of
 
 -- which of them are unordered
 abbrev pub run_marks : List ℕ → InEdges → List Bool

@@ -7,7 +7,8 @@ use plan::choice::pick;
 use plan::join::{JoinType, MaintainOrderJoin};
 use plan::rules::{Around, Observable, Options, Ruled};
 
-// A Join's kept sides, the left side's order gone.
+// A Join's kept sides, the left side's order gone. As in the definition there is one function for each side: one for both would take
+// the side that goes and the side that stays.
 fn without_left(m: MaintainOrderJoin) -> MaintainOrderJoin
     ensures { result ≡ without_left m }
 {

@@ -3,9 +3,9 @@
 ghost use Rattle.std.specs.Prelude.{◌≡◌, List, map, ℕ, ◌<◌, eqb, if◌then◌else◌};
 ghost use Rattle.plan.specs.Visit.{loosened};
 ghost use Rattle.storage.specs.Held.{edges_in};
-ghost use Rattle.node_rules.specs.Held.{InRun, RunFits, ins_of, outs_of};
+ghost use Rattle.node_rules.specs.Held.{InRun, ins_of, outs_of};
 
-use crate::around::InEdges;
+use crate::in_edges::InEdges;
 use plan::rules::Loosened;
 use storage::edges::{is_out_of, loosen_if, slot_of};
 use storage::stored::Edges;
@@ -20,8 +20,7 @@ fn loosened_in(l: Loosened, k: u8) -> bool
 impl InEdges {
     // All of them.
     fn loosen(self, ends: &[u8; 544], edges: &mut Edges, l: Loosened)
-        requires { RunFits 256 self }
-        ensures edges_after { (n : ℕ) → InRun ends.now edges.old.count n self → edges_in ends.now edges.new ≡ map (loosened n (ins_of l)) (edges_in ends.now edges.old) }
+        ensures edges_after { InRun ends.now edges.old.count self → edges_in ends.now edges.new ≡ map (loosened self.of (ins_of l)) (edges_in ends.now edges.old) }
         ensures count { edges.new.count ≡ edges.old.count }
     {
         if !(l.in0 | l.later) {
@@ -31,30 +30,28 @@ impl InEdges {
             loosen_if(&mut edges.bytes, k, loosened_in(l, slot_of(ends, k)));
         }
     }
+
+    // The edges out of their step.
+    fn loosen_out(self, edges: &mut Edges, out: bool)
+        ensures edges_after { (ends : List ℕ) → edges_in ends edges.new ≡ map (loosened self.of (outs_of out)) (edges_in ends edges.old) }
+        ensures count { edges.new.count ≡ edges.old.count }
+    {
+        if !out {
+            return;
+        }
+        for k in 0..edges.count {
+            let out_of = is_out_of(&edges.bytes, k, self.of);
+            loosen_if(&mut edges.bytes, k, out_of);
+        }
+    }
 }
 
-// The edges out of n.
-fn loosen_out(edges: &mut Edges, n: u8, out: bool)
-    requires { n < 32 }
-    ensures edges_after { (ends : List ℕ) → edges_in ends edges.new ≡ map (loosened n (outs_of out)) (edges_in ends edges.old) }
-    ensures count { edges.new.count ≡ edges.old.count }
-{
-    if !out {
-        return;
-    }
-    for k in 0..edges.count {
-        let out_of = is_out_of(&edges.bytes, k, n);
-        loosen_if(&mut edges.bytes, k, out_of);
-    }
-}
-
-// The edges of step n: into slot 0, into the later slots, out. d are those into it.
-pub fn loosen_edges(ends: &[u8; 544], edges: &mut Edges, n: u8, d: InEdges, l: Loosened)
-    requires small { n < 32 }
-    requires in_run { InRun ends.now edges.old.count n d }
-    ensures edges_after { edges_in ends.now edges.new ≡ map (loosened n l) (edges_in ends.now edges.old) }
+// The edges of a step: into slot 0, into the later slots, out. d are those into it.
+pub fn loosen_edges(ends: &[u8; 544], edges: &mut Edges, d: InEdges, l: Loosened)
+    requires in_run { InRun ends.now edges.old.count d }
+    ensures edges_after { edges_in ends.now edges.new ≡ map (loosened d.of l) (edges_in ends.now edges.old) }
     ensures count { edges.new.count ≡ edges.old.count }
 {
     d.loosen(ends, edges, l);
-    loosen_out(edges, n, l.out);
+    d.loosen_out(edges, l.out);
 }

@@ -1,4 +1,6 @@
-// What a visit that removes nothing makes of a step and its edges: the match of simplify_ir_node_orders, an arm per kind.
+// What a visit that removes nothing makes of a step and its edges: the match of simplify_ir_node_orders, an arm per kind. A rule takes
+// what it reads of the step (s), its edges (e) and the expressions (o) as the definition's rules do: a struct of the three would stand
+// in each contract as its three fields.
 ghost use Rattle.std.specs.Prelude.{◌≡◌, false};
 ghost use Rattle.plan.specs.Refusals.{fault_number};
 ghost use Rattle.plan.specs.FunctionIR.{rust_functions};
@@ -12,7 +14,8 @@ use plan::ir::IR;
 use plan::refusal::Refusal;
 use plan::rules::{Around, Loosened, Observable, Options, Ruled};
 
-// With these options, and these edges loosened: into slot 0, into the later slots, out.
+// With these options, and these edges loosened: into slot 0, into the later slots, out. The three are apart as in the definition's
+// `ruled`: each call would else write out a Loosened with its fields' names.
 pub fn ruled(s: Options, in0: bool, later: bool, out: bool) -> Ruled
     ensures { result ≡ ruled s in0 later out }
 {
@@ -68,12 +71,20 @@ fn filter_rule(s: Options, e: Around, o: Observable) -> Ruled
     ruled(s, filter_in, false, e.in0 | filter_in)
 }
 
-// Its option b adds 1 apply, 2 dynamic, 4 rolling.
+// What GroupBy's option b adds.
+const APPLY: u8 = 1;
+
+const DYNAMIC: u8 = 2;
+
+const ROLLING: u8 = 4;
+
 fn group_by_rule(s: Options, e: Around, o: Observable) -> Ruled
     ensures { result ≡ ruled (unmaintained_if (group_by_out s e o) s) (group_by_in s e o) false (group_by_out s e o) }
 {
     let maintain = s.a == 1;
-    let order_observing_options = (s.b / 1 % 2 == 1) | (s.b / 2 % 2 == 1) | (s.b / 4 % 2 == 1);
+    let order_observing_options = (s.b / APPLY % 2 == 1)
+        | (s.b / DYNAMIC % 2 == 1)
+        | (s.b / ROLLING % 2 == 1);
     let group_by_in = !(order_observing_options
         | o.exprs.independent
         | o.internal.column

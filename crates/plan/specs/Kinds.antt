@@ -1,5 +1,6 @@
 -- The kinds of records and of options, in the Rust's names, and their numbers on a sheet (document 01's tables).
-use Rattle.std.specs.Prelude.{ℕ, List, [], ◌∷◌, Bool, eqb, ltb, get_or, if◌then◌else◌, Result, Ok, Err}
+use Rattle.std.specs.Prelude.{ℕ, List, [], ◌∷◌, Bool, eqb, ltb, get_or, slice_get, if◌then◌else◌, Result, Ok, Err}
+use Rattle.std.specs.Option.{ok_or}
 use Rattle.plan.specs.declared.refusal.Refusal.{Refusal}
 use Rattle.plan.specs.declared.aexpr.AExpr.{AExpr}
 use Rattle.plan.specs.declared.ir.IR.{IR}
@@ -11,6 +12,10 @@ use Rattle.plan.specs.declared.function_ir.FunctionIR.{FunctionIR}
 -- the first n numbers stand for a kind each, and any other is refused
 abbrev pub in_table : {A : Type 0} → ℕ → (ℕ → A) → ℕ → Result A Refusal
 in_table n kind k = if ltb k n then Ok (kind k) else Err Refusal.Table
+
+-- the same of the list of kinds, in the order of their numbers
+abbrev pub listed : {A : Type 0} → List A → ℕ → Result A Refusal
+listed kinds k = ok_or (slice_get kinds k) Refusal.Table
 
 -- expressions, in the order of their numbers
 abbrev pub aexprs : List AExpr

@@ -1,5 +1,5 @@
 -- ObservableOrders and ExprOrderAcc of expr.rs: the code's own types (plan/src/orders.rt).
-use Rattle.std.specs.Prelude.{ℕ, ◌+◌, Bool, true, false, ◌&&◌, ◌||◌, not, eqb, if◌then◌else◌}
+use Rattle.std.specs.Prelude.{ℕ, ◌+◌, ◌%◌, Bool, true, false, ◌&&◌, ◌||◌, not, eqb, leb, if◌then◌else◌}
 use Rattle.plan.specs.declared.orders.ObservableOrders.{ObservableOrders}
 use Rattle.plan.specs.declared.orders.ExprOrderAcc.{ExprOrderAcc}
 
@@ -19,6 +19,13 @@ x ∪ y = record { column = x.column || y.column; independent = x.independent ||
 
 abbrev pub is_empty : ObservableOrders → Bool
 is_empty x = not (x.column || x.independent)
+
+-- a set as a number, 1 for COLUMN and 2 for INDEPENDENT, and back
+abbrev pub orders_number : ObservableOrders → ℕ
+orders_number o = if o.column then (if o.independent then 3 else 1) else (if o.independent then 2 else 0)
+
+abbrev pub orders_of : ℕ → ObservableOrders
+orders_of k = record { column = eqb (k % 2) 1; independent = leb 2 k }
 
 abbrev pub no_orders : ExprOrderAcc
 no_orders = record { acc = ∅; saw_mixed_inputs = false; num_ordered_inputs = 0; last_ordered_node = 0 }

@@ -1,5 +1,7 @@
 -- The refusals by number, and what a call of the code comes to in the definition's words.
-use Rattle.std.specs.Prelude.{ℕ, Ok, Err, Result}
+use Rattle.std.specs.Prelude as rust
+use Rattle.std.specs.Prelude.{ℕ, None, Some, Ok, Err, Result}
+use Rattle.std.proofs.Math.Option.{Option, none, some}
 use Rattle.plan.specs.declared.refusal.Refusal.{Refusal}
 use Rattle.plan.specs.Sheet.{Outcome, refused, done}
 
@@ -27,3 +29,8 @@ outcome_of (Err e) = refused (refusal_number e)
 abbrev pub fault_number : {A : Type 0} → Result A Refusal → ℕ
 fault_number (Ok x) = 0
 fault_number (Err e) = refusal_number e
+
+-- an Option of the code is the definition's
+abbrev pub option_of : {A : Type 0} → rust.Option A → Option A
+option_of None = none
+option_of (Some x) = some x

@@ -3,6 +3,7 @@ ghost use Rattle.std.specs.Prelude.{◌≡◌};
 ghost use Rattle.plan.specs.Kinds.{aexpr, aexpr_number, in_table};
 
 use crate::refusal::Refusal;
+use crate::table::kind_at;
 
 // MinBy stands for MaxBy too, First for Last and their NonNull forms, Min for every aggregate that lifts order (Min to Var).
 #[derive(Clone, Copy, Debug, PartialEq, Eq)]
@@ -76,17 +77,13 @@ impl TryFrom<u8> for AExpr {
     ghost try_from_gives = { λ k r. r ≡ in_table 25 aexpr k };
 
     fn try_from(k: u8) -> Result<AExpr, Refusal> {
-        // not by `get`, as the shorter tables: over 25 entries the search does not prove that
-        if k < 25 {
-            Ok(AEXPRS[usize::from(k)])
-        } else {
-            Err(Refusal::Table)
-        }
+        kind_at(&AEXPRS, k)
     }
 }
 
 impl AExpr {
-    // By its number on a sheet; a number past the table is given the first. It cannot fail, as `try_from` does: stored numbers were checked.
+    // By its number on a sheet; a number past the table is given the first. It cannot fail, and `try_from` can: stored
+    // numbers were checked. No trait for the six kinds, as table.rt says.
     pub fn of_number(k: u8) -> AExpr
         ensures { result ≡ aexpr k }
     {

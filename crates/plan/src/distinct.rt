@@ -3,6 +3,7 @@ ghost use Rattle.std.specs.Prelude.{◌≡◌};
 ghost use Rattle.plan.specs.Kinds.{keep_strategy, keep_strategy_number, in_table};
 
 use crate::refusal::Refusal;
+use crate::table::kind_at;
 
 // Which of equal rows a Distinct keeps.
 #[derive(Clone, Copy, Debug, PartialEq, Eq)]
@@ -34,15 +35,13 @@ impl TryFrom<u8> for UniqueKeepStrategy {
     ghost try_from_gives = { λ k r. r ≡ in_table 4 keep_strategy k };
 
     fn try_from(k: u8) -> Result<UniqueKeepStrategy, Refusal> {
-        KEEP_STRATEGIES
-            .get(usize::from(k))
-            .copied()
-            .ok_or(Refusal::Table)
+        kind_at(&KEEP_STRATEGIES, k)
     }
 }
 
 impl UniqueKeepStrategy {
-    // By its number on a sheet; a number past the table is given the first. It cannot fail, as `try_from` does: stored numbers were checked.
+    // By its number on a sheet; a number past the table is given the first. It cannot fail, and `try_from` can: stored
+    // numbers were checked. No trait for the six kinds, as table.rt says.
     pub fn of_number(k: u8) -> UniqueKeepStrategy
         ensures { result ≡ keep_strategy k }
     {

@@ -21,6 +21,7 @@ impl FunctionFlags {
 
     pub const NON_ORDER_PRODUCING: u8 = 32;
 
+    // A flag is its bit and no type of its own: it is asked of any bit, and the definition asks by division too.
     pub fn contains(self, flag: u8) -> bool
         requires { 0 < flag }
         ensures { result ≡ contains self.bits flag }

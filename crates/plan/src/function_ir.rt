@@ -4,6 +4,7 @@ ghost use Rattle.plan.specs.FunctionIR.{is_order_producing, observes_input_order
 ghost use Rattle.plan.specs.Kinds.{function_ir, function_ir_number, in_table};
 
 use crate::refusal::Refusal;
+use crate::table::kind_at;
 
 // What a MapFunction does to the whole frame.
 #[derive(Clone, Copy, Debug, PartialEq, Eq)]
@@ -43,15 +44,13 @@ impl TryFrom<u8> for FunctionIR {
     ghost try_from_gives = { λ k r. r ≡ in_table 8 function_ir k };
 
     fn try_from(k: u8) -> Result<FunctionIR, Refusal> {
-        FUNCTION_IRS
-            .get(usize::from(k))
-            .copied()
-            .ok_or(Refusal::Table)
+        kind_at(&FUNCTION_IRS, k)
     }
 }
 
 impl FunctionIR {
-    // By its number on a sheet; a number past the table is given the first. It cannot fail, as `try_from` does: stored numbers were checked.
+    // By its number on a sheet; a number past the table is given the first. It cannot fail, and `try_from` can: stored
+    // numbers were checked. No trait for the six kinds, as table.rt says.
     pub fn of_number(k: u8) -> FunctionIR
         ensures { result ≡ function_ir k }
     {

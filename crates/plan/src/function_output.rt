@@ -1,4 +1,4 @@
-// A Function's output_observable from its input_order: a branch of four ways in expr.rs, arithmetic here.
+// A Function's output_observable from its input_order: a branch of four ways in expr.rs, arithmetic here, as change request 3 asks.
 ghost use Rattle.std.specs.Prelude.{◌≡◌};
 ghost use Rattle.plan.specs.Look.{function_output};
 

@@ -3,6 +3,7 @@ ghost use Rattle.std.specs.Prelude.{◌≡◌};
 ghost use Rattle.plan.specs.Kinds.{ir, ir_number, in_table};
 
 use crate::refusal::Refusal;
+use crate::table::kind_at;
 
 // Scan stands for DataFrameScan too.
 #[derive(Clone, Copy, Debug, PartialEq, Eq)]
@@ -64,12 +65,13 @@ impl TryFrom<u8> for IR {
     ghost try_from_gives = { λ k r. r ≡ in_table 19 ir k };
 
     fn try_from(k: u8) -> Result<IR, Refusal> {
-        IRS.get(usize::from(k)).copied().ok_or(Refusal::Table)
+        kind_at(&IRS, k)
     }
 }
 
 impl IR {
-    // By its number on a sheet; a number past the table is given the first. It cannot fail, as `try_from` does: stored numbers were checked.
+    // By its number on a sheet; a number past the table is given the first. It cannot fail, and `try_from` can: stored
+    // numbers were checked. No trait for the six kinds, as table.rt says.
     pub fn of_number(k: u8) -> IR
         ensures { result ≡ ir k }
     {

@@ -3,6 +3,7 @@ ghost use Rattle.std.specs.Prelude.{◌≡◌};
 ghost use Rattle.plan.specs.Kinds.{join_type, join_type_number, maintain_order, maintain_order_number, in_table};
 
 use crate::refusal::Refusal;
+use crate::table::kind_at;
 
 // Other stands for every type that the rules do not tell apart.
 #[derive(Clone, Copy, Debug, PartialEq, Eq)]
@@ -34,15 +35,13 @@ impl TryFrom<u8> for JoinType {
     ghost try_from_gives = { λ k r. r ≡ in_table 4 join_type k };
 
     fn try_from(k: u8) -> Result<JoinType, Refusal> {
-        JOIN_TYPES
-            .get(usize::from(k))
-            .copied()
-            .ok_or(Refusal::Table)
+        kind_at(&JOIN_TYPES, k)
     }
 }
 
 impl JoinType {
-    // By its number on a sheet; a number past the table is given the first. It cannot fail, as `try_from` does: stored numbers were checked.
+    // By its number on a sheet; a number past the table is given the first. It cannot fail, and `try_from` can: stored
+    // numbers were checked. No trait for the six kinds, as table.rt says.
     pub fn of_number(k: u8) -> JoinType
         ensures { result ≡ join_type k }
     {
@@ -82,15 +81,13 @@ impl TryFrom<u8> for MaintainOrderJoin {
     ghost try_from_gives = { λ k r. r ≡ in_table 5 maintain_order k };
 
     fn try_from(k: u8) -> Result<MaintainOrderJoin, Refusal> {
-        MAINTAIN_ORDERS
-            .get(usize::from(k))
-            .copied()
-            .ok_or(Refusal::Table)
+        kind_at(&MAINTAIN_ORDERS, k)
     }
 }
 
 impl MaintainOrderJoin {
-    // By its number on a sheet; a number past the table is given the first. It cannot fail, as `try_from` does: stored numbers were checked.
+    // By its number on a sheet; a number past the table is given the first. It cannot fail, and `try_from` can: stored
+    // numbers were checked. No trait for the six kinds, as table.rt says.
     pub fn of_number(k: u8) -> MaintainOrderJoin
         ensures { result ≡ maintain_order k }
     {

@@ -15,4 +15,5 @@ pub mod orders; // orders.rt: ObservableOrders, ExprOrderAcc
 pub mod refusal; // refusal.rt: Refusal
 pub mod rules; // rules.rt: Options, Around, Observable, Loosened, Ruled: what a rule reads and gives
 pub mod sizes; // sizes.rt: the length of an array, as a fact for proofs
+pub mod table; // table.rt: a kind by its number
 pub mod tally; // tally.rt: Tally

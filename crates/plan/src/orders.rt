@@ -1,6 +1,6 @@
 // The orders that an expression lets be observed, and those of several accumulated: ObservableOrders and ExprOrderAcc of expr.rs.
 ghost use Rattle.std.specs.Prelude.{◌≡◌, ◌<◌};
-ghost use Rattle.plan.specs.Orders.{◌∪◌, is_empty, add};
+ghost use Rattle.plan.specs.Orders.{◌∪◌, is_empty, orders_number, orders_of, add};
 
 #[derive(Clone, Copy)]
 pub struct ObservableOrders {
@@ -42,6 +42,31 @@ impl ObservableOrders {
     }
 }
 
+// 1 for COLUMN and 2 for INDEPENDENT.
+impl From<ObservableOrders> for u8 {
+    ghost from_gives = { λ o k. k ≡ orders_number o };
+
+    fn from(o: ObservableOrders) -> u8 {
+        if o.column {
+            if o.independent { 3 } else { 1 }
+        } else {
+            if o.independent { 2 } else { 0 }
+        }
+    }
+}
+
+// Back from the number; no set has one above 3.
+impl From<u8> for ObservableOrders {
+    ghost from_gives = { λ k o. o ≡ orders_of k };
+
+    fn from(k: u8) -> ObservableOrders {
+        ObservableOrders {
+            column: k % 2 == 1,
+            independent: 2 <= k,
+        }
+    }
+}
+
 // The order accumulator.
 #[derive(Clone, Copy)]
 pub struct ExprOrderAcc {
@@ -49,7 +74,7 @@ pub struct ExprOrderAcc {
     // Were expressions of different orders projected beside each other?
     pub saw_mixed_inputs: bool,
     pub num_ordered_inputs: u8,
-    // Of no account while there is none.
+    // Of no account while there is none. The Rust has an Option here; `num_ordered_inputs` says already whether there is one.
     pub last_ordered_node: u8,
 }
 

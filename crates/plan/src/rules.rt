@@ -2,7 +2,9 @@
 use crate::ir::IR;
 use crate::orders::ObservableOrders;
 
-// A step's kind, its options, and how many expressions its n2 list has.
+// A step's kind, its options, and how many expressions its n2 list has. The options are the numbers of the sheet: what each means goes by
+// the kind, and a rule turns those that it reads into the Rust's enums (JoinType, UniqueKeepStrategy and so on). The definition's
+// Options are these, numbers with them.
 #[derive(Clone, Copy)]
 pub struct Options {
     pub kind: IR,

@@ -1,6 +1,6 @@
 -- What a line that was read comes to.
 use Rattle.std.specs.Prelude.{if◌then◌else◌}
-use mathlib.Core.Path.{◌≡◌, refl, sym, ap, ◌∙◌, subst}
+use mathlib.Core.Path.{◌≡◌, refl, sym, ap, ◌∙◌}
 use mathlib.Core.Bool.{Bool, true, false, ◌&&◌, ◌||◌, not}
 use mathlib.Core.List.{List, [], ◌∷◌, ◌++◌}
 use mathlib.Core.Option.{Option, none, some}
@@ -12,16 +12,17 @@ use lib.ListN.{length, get_or, take, drop, set, length-drop, length-append}
 use lib.Seq.{ext_get_or, get_or-take, length-take-le}
 use borrow.Author.Tests.{ltb-true, leb-true, eqb-true, lt-ltb, le-ltb, le-leb, lt-leb}
 use Rattle.plan.specs.declared.ir.IR.{IR}
-use Rattle.plan.specs.Kinds.{aexpr_number, ir_number, same_ir}
+use Rattle.plan.specs.Kinds.{aexpr_number, ir, ir_number, same_ir}
 use Rattle.plan.proofs.KindNumbers.{aexpr_there, ir_there}
-use Rattle.plan.specs.Lists.{sum, empty?, same, yes?}
+use Rattle.plan.specs.Lists.{sum, empty?, same}
 use Rattle.plan.specs.Sheet.{Expr, Step, Sheet, E, P, refused, done, refuse◌when◌else◌, lettered, expr_of, step_of, expr_fits, step_fits, in_expr_table, in_step_table, expr_count, over_limits, with_expr, with_step, read_line}
 use Rattle.storage.specs.Stored.{stored_exprs, stored_steps, table}
 use Rattle.storage.proofs.Laws.{length_exprs, length_steps}
 use Rattle.storage.proofs.Changes.{step_take}
 use Rattle.reading.specs.Line.{line, ended, numbers_after, numbers_of, Kept, AllRead}
-use Rattle.reading.specs.Tables.{row, expr_numbers_fit, step_numbers_fit, most_a, most_b, most_c, inputs, exprs, most_aggs, within, FewEntries}
-use Rattle.reading.specs.Lines.{pasted, sheet_of, agg_entries, aggs_of, Sound, LineTaken}
+use Rattle.reading.specs.Tables.{row, expr_kind_fits, expr_numbers_fit, step_kind_fits, step_numbers_fit, most_a, most_b, most_c, inputs, exprs, most_aggs, FewEntries}
+use Rattle.reading.specs.Lines.{pasted, sheet_of, agg_entries, aggs_of, Sound}
+use Rattle.reading.specs.Taken.{LineTaken}
 use Rattle.reading.specs.declared.line.Numbers.{Numbers}
 use Rattle.reading.specs.declared.lines.LineCounts.{LineCounts}
 use Rattle.reading.proofs.Stores.{more_exprs, exprs_formed, more_steps, steps_formed}
@@ -32,10 +33,16 @@ and_same : (a : Bool) {x y : Bool} → (a ≡ true → x ≡ y) → (a && x) ≡
 and_same true h = h refl
 and_same false h = refl
 
-in_row : (e : Expr) (k : ℕ) → aexpr_number e.kind ≡ k
-    → in_expr_table e ≡ (leb e.option (row k).option && leb (row k).least (length e.children) && leb (length e.children) (row k).most && (not (eqb k 16 && yes? e.option) || leb 2 (length e.children)))
-unfolding in_expr_table row
-in_row e k h = rw (in_expr_table, h)
+row_grouped : (a b c d : Bool) → (a && b && c && d) ≡ (a && (b && c) && d)
+row_grouped true true c d = refl
+row_grouped true false c d = refl
+row_grouped false b c d = refl
+
+in_row : (e : Expr) (k : ℕ) → aexpr_number e.kind ≡ k → in_expr_table e ≡ expr_kind_fits k e.option (length e.children)
+unfolding in_expr_table expr_kind_fits row
+in_row e k h =
+    rw (in_expr_table, h)
+    (row_grouped (leb e.option (row k).option) (leb (row k).children.least (length e.children)) (leb (length e.children) (row k).children.most) _)
 
 -- of tests joined from the left
 pub first_holds : (a b c : Bool) → (a && b && c) ≡ true → a ≡ true
@@ -59,10 +66,8 @@ regroup true true true true true false g h i = refl
 regroup true true true true true true false h i = refl
 
 in_step_row : (s : Step) (k n1 n2 n3 : ℕ) → ir_number s.kind ≡ k → length s.inputs ≡ n1 → length s.exprs ≡ n2 → length s.aggs ≡ n3
-    → in_step_table s ≡ ((leb s.a (most_a k) && leb s.b (most_b k) && leb s.c (most_c k))
-    && (within n1 (inputs k) && within n2 (exprs k) && leb n3 (most_aggs k))
-    && (not (eqb k 2 && eqb s.b 0) || eqb n2 0))
-unfolding in_step_table most_a most_b most_c inputs exprs most_aggs
+    → in_step_table s ≡ step_kind_fits k s.a s.b s.c n1 n2 n3
+unfolding in_step_table step_kind_fits most_a most_b most_c inputs exprs most_aggs
 in_step_row s k n1 n2 n3 e f g h =
     rw (in_step_table, e, f, g, h)
     (regroup (leb s.a (most_a k)) (leb s.b (most_b k)) (leb s.c (most_c k)) (leb (inputs k).least n1) (leb n1 (inputs k).most) (leb (exprs k).least n2) (leb n2 (exprs k).most) (leb n3 (most_aggs k)) (not (eqb k 2 && eqb s.b 0) || eqb n2 0))
@@ -111,12 +116,12 @@ fit_expr k s l a n h = by (ltb k 25) (leb s 1) (leb l 1) _ refl refl refl h
 
 pub fit_kind : (k a b c n1 n2 n3 n : ℕ) → step_numbers_fit k a b c n1 n2 n3 n ≡ true → (k < 19) × (n ≡ 7 + n1 + n2 + n3)
 unfolding step_numbers_fit
-fit_kind k a b c n1 n2 n3 n h = by (ltb k 19) (eqb n (7 + n1 + n2 + n3)) _ _ _ refl refl h
+fit_kind k a b c n1 n2 n3 n h = by (ltb k 19) (eqb n (7 + n1 + n2 + n3)) _ refl refl h
   where
-    by : (p q x y z : Bool) → ltb k 19 ≡ p → eqb n (7 + n1 + n2 + n3) ≡ q → (p && q && x && y && z) ≡ true → (k < 19) × (n ≡ 7 + n1 + n2 + n3)
-    by true true x y z e f g = (ltb-true k 19 e, eqb-true n (7 + n1 + n2 + n3) f)
-    by true false x y z e f g = absurd (cc)
-    by false q x y z e f g = absurd (cc)
+    by : (p q x : Bool) → ltb k 19 ≡ p → eqb n (7 + n1 + n2 + n3) ≡ q → (p && q && x) ≡ true → (k < 19) × (n ≡ 7 + n1 + n2 + n3)
+    by true true x e f g = (ltb-true k 19 e, eqb-true n (7 + n1 + n2 + n3) f)
+    by true false x e f g = absurd (cc)
+    by false q x e f g = absurd (cc)
 
 -- The letter and the count of numbers ----------------------------------------------------------------------------------------
 
@@ -301,7 +306,10 @@ unfolding line
 line_length [] = omega arith
 line_length (x ∷ s) = line_step x s (eqb x 10) refl (line_length s)
 
-module _ (s v : List ℕ) (f : Numbers) (A : AllRead s f v) where
+module _ (s : List ℕ) (len : ℕ) (f : Numbers) (A : AllRead s len f) where
+  abbrev v : List ℕ
+  v = f.kept
+
   first_kept : (i : ℕ) → i < 31 → i < f.count → get_or v i 0 ≡ get_or A.list i 0
   first_kept i h l = A.kept.first i h (let z = A.count in omega arith)
 
@@ -332,31 +340,34 @@ module _ (s v : List ℕ) (f : Numbers) (A : AllRead s f v) where
           pub E_full : 128 ≤ t.exprs → read_line (lettered (69 ∷ []) (numbers_of s)) (sheet_of es ps t) ≡ refused 5
           E_full n = ap (λ o. read_line o (sheet_of es ps t)) E_is ∙ expr_over A.list (sheet_of es ps t) (none_before es ps t snd k) (E_fits e ∙ y) (full_exprs es ps t snd (expr_of A.list) n)
 
-          pub E_taken : (es' : List ℕ) → t.exprs < 128 → f.count - 4 ≤ 8 → length es ≡ 2048 → es' ≡ pasted es (t.exprs * 16) (set v 12 (f.count - 4)) 16
-              → LineTaken (lettered (69 ∷ []) (numbers_of s)) (69 ∷ s) es ps es' ps t (record { exprs = t.exprs + 1; aggs = t.aggs; steps = t.steps }) (f.len + 1)
-          unfolding with_expr
-          E_taken es' n c l p =
-              let q : 4 + (f.count - 4) ≡ length A.list = (let z = A.count in omega arith) in
-              let u : take (4 + (f.count - 4)) v ≡ A.list = ap (λ m. take m v) q ∙ kept_all A.list v A.kept (omega arith) in
-              let small = more_exprs es v t.exprs (f.count - 4) n l A.kept.size c snd.exprs in
-              let fit = fit_expr (get_or v 0 0) (get_or v 1 0) (get_or v 2 0) (get_or v 3 0) (f.count - 4) (sym e ∙ y) in
-              let z = no_aggs es ps t snd k in
-              record {
-                taken =
-                    ap (λ o. read_line o (sheet_of es ps t)) E_is
-                    ∙ expr_in A.list (sheet_of es ps t) (none_before es ps t snd k) (E_fits e ∙ y) (room_exprs es ps t snd (expr_of A.list) k n)
-                    ∙ ap (λ (x : List Expr). done (record { exprs = x; steps = stored_steps ps t.steps }))
-                    (sym (ap (λ x. stored_exprs x (t.exprs + 1)) p ∙ small ∙ ap (λ x. stored_exprs es t.exprs ++ (expr_of x ∷ [])) u));
-                sound = record {
+          module _ (es' : List ℕ) (n : t.exprs < 128) (c : f.count - 4 ≤ 8) (l : length es ≡ 2048) (p : es' ≡ pasted es (t.exprs * 16) (set v 12 (f.count - 4)) 16) where
+            pub E_taken : LineTaken (lettered (69 ∷ []) (numbers_of s)) (69 ∷ s) es ps es' ps t (record { exprs = t.exprs + 1; aggs = t.aggs; steps = t.steps }) (len + 1)
+            unfolding with_expr
+            E_taken =
+                let q : 4 + (f.count - 4) ≡ length A.list = (let z = A.count in omega arith) in
+                let u : take (4 + (f.count - 4)) v ≡ A.list = ap (λ m. take m v) q ∙ kept_all A.list v A.kept (omega arith) in
+                let small = more_exprs es v t.exprs (f.count - 4) n l A.kept.size c snd.exprs in
+                record {
+                  taken =
+                      ap (λ o. read_line o (sheet_of es ps t)) E_is
+                      ∙ expr_in A.list (sheet_of es ps t) (none_before es ps t snd k) (E_fits e ∙ y) (room_exprs es ps t snd (expr_of A.list) k n)
+                      ∙ ap (λ (x : List Expr). done (record { exprs = x; steps = stored_steps ps t.steps }))
+                      (sym (ap (λ x. stored_exprs x (t.exprs + 1)) p ∙ small ∙ ap (λ x. stored_exprs es t.exprs ++ (expr_of x ∷ [])) u));
+                  whole = ended_after 69 s refl ∙ is_ended s A.list A.are;
+                  long = ap (λ m. m + 1) A.len_is ∙ add-one (suc (length (line s))) ∙ ap suc (sym (longer 69 s refl));
+                }
+
+            pub E_sound : Sound es' ps (record { exprs = t.exprs + 1; aggs = t.aggs; steps = t.steps })
+            E_sound =
+                let fit = fit_expr (get_or v 0 0) (get_or v 1 0) (get_or v 2 0) (get_or v 3 0) (f.count - 4) (sym e ∙ y) in
+                let z = no_aggs es ps t snd k in
+                record {
                   exprs = rw p (exprs_formed es v t.exprs (f.count - 4) n l A.kept.size c snd.exprs fit.0 fit.1.0 fit.1.1);
                   steps = snd.steps;
                   aggs = snd.aggs;
                   few_exprs = omega arith;
                   few_steps = snd.few_steps;
-                };
-                whole = ended_after 69 s refl ∙ is_ended s A.list A.are;
-                long = ap (λ m. m + 1) A.len ∙ add-one (suc (length (line s))) ∙ ap suc (sym (longer 69 s refl));
-              }
+                }
 
   module _ (h : 7 ≤ f.count) where
     abbrev numbers_fit : Bool
@@ -385,9 +396,6 @@ module _ (s v : List ℕ) (f : Numbers) (A : AllRead s f v) where
       P_not n = ap (λ o. read_line o (sheet_of es ps t)) P_is ∙ step_not A.list (sheet_of es ps t) (P_fits e ∙ n)
 
       module _ (y : r ≡ true) where
-        kind_small : get_or A.list 0 0 < 19
-        kind_small = subst (λ n. n < 19) (first_kept 0 (omega arith) (omega arith)) (fit_kind _ _ _ _ _ _ _ _ (sym e ∙ y)).0
-
         adds_up : f.count ≡ 7 + get_or v 4 0 + get_or v 5 0 + get_or v 6 0
         adds_up = (fit_kind (get_or v 0 0) (get_or v 1 0) (get_or v 2 0) (get_or v 3 0) (get_or v 4 0) (get_or v 5 0) (get_or v 6 0) f.count (sym e ∙ y)).1
 
@@ -396,42 +404,50 @@ module _ (s v : List ℕ) (f : Numbers) (A : AllRead s f v) where
             sym A.count ∙ adds_up
             ∙ rw (first_kept 4 (omega arith) (omega arith), first_kept 5 (omega arith) (omega arith), first_kept 6 (omega arith) (omega arith))
 
-        entries_are : entries (step_of A.list) ≡ aggs_of (get_or v 0 0) (get_or v 6 0)
+        entries_are : entries (step_of A.list) ≡ aggs_of (ir (get_or v 0 0)) (get_or v 6 0)
         unfolding entries step_of
         entries_are =
-            ap (λ (n : ℕ). if eqb n 7 then length (step_of A.list).aggs else 0) (ir_there (get_or A.list 0 0) kind_small)
-            ∙ ap (λ (n : ℕ). if eqb (get_or A.list 0 0) 7 then n else 0) (aggs_length A.list list_adds_up)
+            ap (aggs_of (ir (get_or A.list 0 0))) (aggs_length A.list list_adds_up)
             ∙ rw (first_kept 0 (omega arith) (omega arith), first_kept 6 (omega arith) (omega arith))
 
         pub P_full : 32 ≤ t.steps → read_line (lettered (80 ∷ []) (numbers_of s)) (sheet_of es ps t) ≡ refused 5
         P_full n = ap (λ o. read_line o (sheet_of es ps t)) P_is ∙ step_over A.list (sheet_of es ps t) (P_fits e ∙ y) (full_steps es ps t snd (step_of A.list) n)
 
-        module _ (a : ℕ) (ae : a ≡ aggs_of (get_or v 0 0) (get_or v 6 0)) where
+        module _ (a : ℕ) (kind : IR) (ke : kind ≡ ir (get_or v 0 0)) (ae : a ≡ aggs_of kind (get_or v 6 0)) where
+          entries_here : entries (step_of A.list) ≡ a
+          entries_here = entries_are ∙ sym (ap (λ k. aggs_of k (get_or v 6 0)) ke) ∙ sym ae
+
           pub P_over : 128 < t.exprs + (t.aggs + a) → read_line (lettered (80 ∷ []) (numbers_of s)) (sheet_of es ps t) ≡ refused 5
           P_over n =
               ap (λ o. read_line o (sheet_of es ps t)) P_is
-              ∙ step_over A.list (sheet_of es ps t) (P_fits e ∙ y) (full_aggs es ps t snd (step_of A.list) (let z = entries_are in omega arith))
+              ∙ step_over A.list (sheet_of es ps t) (P_fits e ∙ y) (full_aggs es ps t snd (step_of A.list) (let z = entries_here in omega arith))
 
-          pub P_taken : (ps' : List ℕ) → t.steps < 32 → t.exprs + (t.aggs + a) ≤ 128 → FewEntries (get_or v 4 0) (get_or v 5 0) (get_or v 6 0) → length ps ≡ 1024
-              → ps' ≡ pasted ps (t.steps * 32) v 32
-              → LineTaken (lettered (80 ∷ []) (numbers_of s)) (80 ∷ s) es ps es ps' t (record { exprs = t.exprs; aggs = t.aggs + a; steps = t.steps + 1 }) (f.len + 1)
-          unfolding with_step
-          P_taken ps' n m c l p =
-              let u : take f.count v ≡ A.list = ap (λ m. take m v) A.count ∙ kept_all A.list v A.kept (let z = A.count in let w = adds_up in omega arith) in
-              let w : step_of v ≡ step_of A.list = sym (step_take v f.count (let w = adds_up in omega arith)) ∙ ap step_of u in
-              let more = ap (λ x. stored_steps x (t.steps + 1)) p ∙ more_steps ps v t.steps n l A.kept.size c.inputs c.exprs c.aggs snd.steps ∙ ap (λ x. stored_steps ps t.steps ++ (x ∷ [])) w in
-              record {
-                taken =
-                    ap (λ o. read_line o (sheet_of es ps t)) P_is
-                    ∙ step_in A.list (sheet_of es ps t) (P_fits e ∙ y) (room_steps es ps t snd (step_of A.list) n (let z = entries_are in omega arith))
-                    ∙ ap (λ (x : List Step). done (record { exprs = stored_exprs es t.exprs; steps = x })) (sym more);
-                sound = record {
+          module _ (ps' : List ℕ) (n : t.steps < 32) (m : t.exprs + (t.aggs + a) ≤ 128) (c : FewEntries (get_or v 4 0) (get_or v 5 0) (get_or v 6 0)) (l : length ps ≡ 1024)
+              (p : ps' ≡ pasted ps (t.steps * 32) v 32) where
+            more : stored_steps ps' (t.steps + 1) ≡ stored_steps ps t.steps ++ (step_of A.list ∷ [])
+            more =
+                let u : take f.count v ≡ A.list = ap (λ m. take m v) A.count ∙ kept_all A.list v A.kept (let z = A.count in let w = adds_up in omega arith) in
+                let w : step_of v ≡ step_of A.list = sym (step_take v f.count (let w = adds_up in omega arith)) ∙ ap step_of u in
+                ap (λ x. stored_steps x (t.steps + 1)) p ∙ more_steps ps v t.steps n l A.kept.size c.inputs c.exprs c.aggs snd.steps ∙ ap (λ x. stored_steps ps t.steps ++ (x ∷ [])) w
+
+            pub P_taken : LineTaken (lettered (80 ∷ []) (numbers_of s)) (80 ∷ s) es ps es ps' t (record { exprs = t.exprs; aggs = t.aggs + a; steps = t.steps + 1 }) (len + 1)
+            unfolding with_step
+            P_taken =
+                record {
+                  taken =
+                      ap (λ o. read_line o (sheet_of es ps t)) P_is
+                      ∙ step_in A.list (sheet_of es ps t) (P_fits e ∙ y) (room_steps es ps t snd (step_of A.list) n (let z = entries_here in omega arith))
+                      ∙ ap (λ (x : List Step). done (record { exprs = stored_exprs es t.exprs; steps = x })) (sym more);
+                  whole = ended_after 80 s refl ∙ is_ended s A.list A.are;
+                  long = ap (λ m. m + 1) A.len_is ∙ add-one (suc (length (line s))) ∙ ap suc (sym (longer 80 s refl));
+                }
+
+            pub P_sound : Sound es ps' (record { exprs = t.exprs; aggs = t.aggs + a; steps = t.steps + 1 })
+            P_sound =
+                record {
                   exprs = snd.exprs;
                   steps = rw p (steps_formed ps v t.steps n l A.kept.size c.inputs c.exprs c.aggs snd.steps (fit_kind _ _ _ _ _ _ _ _ (sym e ∙ y)).0);
-                  aggs = (let z = snd.aggs in let u = entries_are in let y = agg_more (stored_steps ps t.steps) (step_of A.list) in omega (arith, ap agg_entries more));
+                  aggs = (let z = snd.aggs in let u = entries_here in let y = agg_more (stored_steps ps t.steps) (step_of A.list) in omega (arith, ap agg_entries more));
                   few_exprs = omega arith;
                   few_steps = omega arith;
-                };
-                whole = ended_after 80 s refl ∙ is_ended s A.list A.are;
-                long = ap (λ m. m + 1) A.len ∙ add-one (suc (length (line s))) ∙ ap suc (sym (longer 80 s refl));
-              }
+                }

@@ -17,7 +17,8 @@ use Rattle.plan.proofs.ListLaws.{part_from}
 use Rattle.plan.specs.declared.refusal.Refusal.{Refusal}
 use Rattle.reading.specs.Number.{separator?, field, number_at, found}
 use Rattle.reading.specs.Field.{Field, field_of, field_at}
-use Rattle.reading.specs.Line.{line, ended, numbers_after, numbers_of, placed, Kept, NumbersRead}
+use Rattle.reading.specs.declared.line.Numbers.{Numbers}
+use Rattle.reading.specs.Line.{line, ended, numbers_after, numbers_of, placed, Kept, NoneRead, NumbersRead}
 use Rattle.reading.specs.declared.number.Number.{Number}
 
 pub length_from : (s : List ℕ) (a : ℕ) → length (take (length s - a) (drop a s)) ≡ length s - a
@@ -212,11 +213,11 @@ pub record Sofar (s : List ℕ) (len count : ℕ) (v rest : List ℕ) : Type 0 w
   are : numbers_of s ≡ prepend list (numbers_of rest)
   counted : count ≡ length list
   kept : Kept list v
-  long : length (line s) ≡ len + length (line rest)
-  pub fits : len + length rest ≡ length s
-  pub few : count ≤ len
+  long : suc (length (line s)) ≡ len + length (line rest)
+  pub fits : len + length rest ≡ suc (length s)
+  pub few : count < len
 
-pub begin : (s v : List ℕ) → length v ≡ 32 → Sofar s 0 0 v s
+pub begin : (s v : List ℕ) → length v ≡ 32 → Sofar s 1 0 v s
 begin s v e =
     record {
       list = [];
@@ -241,24 +242,24 @@ module _ (s rest v : List ℕ) (len count : ℕ) (w : Sofar s len count v rest) 
         few = omega (arith, w.few, t.some_bytes);
       }
 
-  pub turn : (v' : List ℕ) (f : Number) → field_at rest ≡ Ok (Some f) → v' ≡ placed v count f.value → Sofar s (len + f.width) (count + 1) v' (take (length rest - f.width) (drop f.width rest))
-  turn v' f e p = rw (p, part_from rest f.width) (more f.value f.width (stood rest f e))
+  pub turn : (v' : List ℕ) (c' : ℕ) (f : Number) → field_at rest ≡ Ok (Some f) → (v' ≡ placed v count f.value) × (c' ≡ count + 1) → Sofar s (len + f.width) c' v' (take (length rest - f.width) (drop f.width rest))
+  turn v' c' f e p = rw (p.0, p.1, part_from rest f.width) (more f.value f.width (stood rest f e))
 
-  pub ends : field_at rest ≡ Ok None → NumbersRead s (Ok (record { len = len + 1; count = count })) v
-  ends e =
+  pub ends : (n : Numbers) → n.kept ≡ v → n.count ≡ count → field_at rest ≡ Ok None → NumbersRead s (Ok len) n
+  ends n k c e =
       let (a, b) = at_end rest e in
       record {
         list = w.list;
         are = w.are ∙ rw a (ap some (append-nil w.list));
-        count = w.counted;
-        kept = w.kept;
-        len = omega (arith, w.long, ap length b);
+        count = c ∙ w.counted;
+        kept = rw k w.kept;
+        len_is = omega (arith, w.long, ap length b);
       }
 
-  pub breaks : (r : Refusal) → field_at rest ≡ Err r → NumbersRead s (Err r) v
+  pub breaks : (r : Refusal) → field_at rest ≡ Err r → NoneRead s r
   breaks r e =
       let (a, form) = broken rest r e in
-      record { are = w.are ∙ ap (prepend w.list) a; answer = form; size = w.kept.size }
+      record { are = w.are ∙ ap (prepend w.list) a; answer = form }
 
 -- The code's needs ----------------------------------------------------------------------------------------------------------
 

@@ -14,11 +14,11 @@ use Rattle.plan.specs.Lists.{all?, numbered}
 use Rattle.plan.specs.Sheet.{Expr, Step, Sheet, step_at, no_step}
 use Rattle.plan.specs.Faults.{lines, children_earlier, inputs_earlier, exprs_there, references_right, first_fault}
 use Rattle.plan.proofs.FaultLaws.{over_lines, all_and}
-use Rattle.storage.specs.Stored.{stored_expr, stored_step, stored_exprs, stored_steps}
+use Rattle.storage.specs.Stored.{stored_expr, stored_step, stored_exprs, stored_steps, table}
 use Rattle.storage.proofs.Laws.{length_table, table_at}
 use Rattle.reading.specs.Held.{both, before_no_sink, sheet}
 use Rattle.reading.proofs.Checks.{first_holds}
-use Rattle.reading.proofs.Scans.{lines_are, faults_from, faults_first}
+use Rattle.reading.proofs.Scans.{lines_are}
 
 pub all_same : {A : Type 0} (f g : A → Bool) → ((x : A) → f x ≡ g x) → (l : List A) → all? f l ≡ all? g l
 unfolding all?
@@ -33,13 +33,13 @@ pub steps_all : (f : ℕ × Step → Bool) (ps : List ℕ) (n : ℕ) → list_al
 unfolding stored_steps
 steps_all f ps n = lines_are (λ i. f (i, stored_step ps i)) f (stored_step ps) 0 n (λ i h. refl)
 
-pub expr_faults_first : (f : ℕ × Expr → ℕ) (es : List ℕ) (n : ℕ) → first_fault (map f (numbered 0 (stored_exprs es n))) ≡ faults_from f (stored_expr es) n 0
+pub of_exprs : (f : ℕ × Expr → ℕ) (es : List ℕ) (n : ℕ) {k : ℕ} → k ≡ first_fault (map f (numbered 0 (table (stored_expr es) 0 n))) → k ≡ first_fault (map f (numbered 0 (stored_exprs es n)))
 unfolding stored_exprs
-expr_faults_first f es n = faults_first f (stored_expr es) n
+of_exprs f es n e = e
 
-pub step_faults_first : (f : ℕ × Step → ℕ) (ps : List ℕ) (n : ℕ) → first_fault (map f (numbered 0 (stored_steps ps n))) ≡ faults_from f (stored_step ps) n 0
+pub of_steps : (f : ℕ × Step → ℕ) (ps : List ℕ) (n : ℕ) {k : ℕ} → k ≡ first_fault (map f (numbered 0 (table (stored_step ps) 0 n))) → k ≡ first_fault (map f (numbered 0 (stored_steps ps n)))
 unfolding stored_steps
-step_faults_first f ps n = faults_first f (stored_step ps) n
+of_steps f ps n e = e
 
 -- an input's kind, by its line
 sink_at : (ps : List ℕ) (n m : ℕ) → m < n → same_ir (step_at (stored_steps ps n) m).kind IR.Sink ≡ same_ir (stored_step ps m).kind IR.Sink

@@ -10,7 +10,8 @@ use Rattle.storage.specs.Stored.{stored_expr, stored_step, stored_exprs, stored_
 use Rattle.storage.proofs.Laws.{table_more, same_table}
 use Rattle.storage.proofs.Changes.{step_take}
 use Rattle.reading.specs.Lines.{pasted}
-use Rattle.reading.specs.Held.{children_of, count_of}
+use Rattle.storage.specs.Lines.{children_count}
+use Rattle.reading.specs.Held.{count_of}
 use borrow.Rule.Slice.PartMut.{put_mid}
 use lib.ListN.{length, get_or, take, drop, set, length-set, length-drop, take-append-drop, get_or-append}
 use lib.Seq.{drop-drop, take-append-le, drop-append-le, drop_at, take-take, get_or-take, get_or-drop, length-take-le, take-set-le, get_or-set_same, get_or-set_other}
@@ -74,7 +75,7 @@ module _ (es v : List ℕ) (n count : ℕ) (h : n < 128) (el : length es ≡ 204
   wide : 16 ≤ length (set v 12 count)
   wide = omega (arith, length-set v 12 count)
 
-  count_written : children_of es' n ≡ count
+  count_written : children_count es' n ≡ count
   count_written = byte_written es (set v 12 count) (n * 16) 16 fits_here wide 12 (omega arith) ∙ get_or-set_same v 12 count 0 (omega arith)
 
   new_expr : stored_expr es' n ≡ expr_of (take (4 + count) v)
@@ -90,7 +91,7 @@ module _ (es v : List ℕ) (n count : ℕ) (h : n < 128) (el : length es ≡ 204
     old_byte : (k : ℕ) → k < n * 16 → get_or es' k 0 ≡ get_or es k 0
     old_byte k l = byte_before es (set v 12 count) (n * 16) 16 fits_here wide k l
 
-    old_count : (i : ℕ) → i < n → children_of es' i ≡ children_of es i
+    old_count : (i : ℕ) → i < n → children_count es' i ≡ children_count es i
     old_count i l = old_byte (i * 16 + 12) (omega arith)
 
     old_expr : (i : ℕ) → i < n → stored_expr es' i ≡ stored_expr es i
@@ -98,7 +99,7 @@ module _ (es v : List ℕ) (n count : ℕ) (h : n < 128) (el : length es ≡ 204
     old_expr i l =
         ap expr_of
         (ap (λ c. take (4 + c) (drop (i * 16) es')) (old_count i l)
-        ∙ before es (set v 12 count) (n * 16) 16 fits_here wide (i * 16) (4 + children_of es i) (let s = (old i l).count in omega arith))
+        ∙ before es (set v 12 count) (n * 16) 16 fits_here wide (i * 16) (4 + children_count es i) (let s = (old i l).count in omega arith))
 
     pub more_exprs : stored_exprs es' (n + 1) ≡ stored_exprs es n ++ (expr_of (take (4 + count) v) ∷ [])
     unfolding stored_exprs

@@ -12,13 +12,14 @@ use lib.ListN.{length, get_or, take, drop}
 use borrow.Author.Tests.{ne_eqb}
 use Rattle.plan.specs.declared.refusal.Refusal.{Refusal}
 use Rattle.plan.specs.Lists.{empty?, same, sum}
-use Rattle.plan.specs.Sheet.{Sheet, refused, done, ◌then◌, parts, onto, numbers, lettered, line_of, read_line, read_lines, no_lines}
+use Rattle.plan.specs.Sheet.{Sheet, Outcome, refused, done, ◌then◌, parts, onto, numbers, lettered, line_of, read_line, read_lines, no_lines}
 use Rattle.storage.specs.Stored.{stored_exprs, stored_steps, table}
 use Rattle.plan.proofs.ListLaws.{part_from}
 use Rattle.reading.specs.Line.{line, ended, line_here, numbers_after, numbers_of}
-use Rattle.reading.specs.Lines.{sheet_of, agg_entries, Sound, LineTaken, LineRead, AllTaken}
+use Rattle.reading.specs.Lines.{sheet_of, agg_entries, Sound, AllTaken}
+use Rattle.reading.specs.Taken.{LineTaken, LineRead}
+use Rattle.reading.specs.declared.lines.Taken.{Taken}
 use Rattle.reading.specs.declared.lines.LineCounts.{LineCounts}
-use Rattle.reading.specs.declared.lines.Reading.{Reading}
 
 -- The letter -----------------------------------------------------------------------------------------------------------------
 
@@ -82,7 +83,7 @@ no_line x m e f = by (ended (x ∷ m)) (eqb x 10) refl
     by true true g = rw (line, g) empty_line
     by true false g = rw (line, g) (other_by x (line m) (eqb x 44) refl e f)
 
-module _ (s es ps es' ps' : List ℕ) (t : LineCounts) (r : Result Reading Refusal) (h : 0 < length s) where
+module _ (s : List ℕ) (t t' : Taken) (r : Result ℕ Refusal) (h : 0 < length s) where
   cut : (x : ℕ) → get_or s 0 0 ≡ x → s ≡ x ∷ take (length s - 1) (drop 1 s)
   cut x e = rw (part_from s 1) (split s h e)
     where
@@ -91,10 +92,10 @@ module _ (s es ps es' ps' : List ℕ) (t : LineCounts) (r : Result Reading Refus
       split (y ∷ s) h e = ap (λ z. z ∷ s) e
 
   pub lettered_read : (x : ℕ) → eqb x 44 ≡ false → eqb x 10 ≡ false → get_or s 0 0 ≡ x
-      → LineRead (lettered (x ∷ []) (numbers_of (take (length s - 1) (drop 1 s)))) (x ∷ take (length s - 1) (drop 1 s)) es ps es' ps' t r → LineRead (line_here s) s es ps es' ps' t r
+      → LineRead (lettered (x ∷ []) (numbers_of (take (length s - 1) (drop 1 s)))) (x ∷ take (length s - 1) (drop 1 s)) t t' r → LineRead (line_here s) s t t' r
   lettered_read x a b e l =
-      subst (λ z. LineRead (line_here z) z es ps es' ps' t r) (sym (cut x e))
-      (subst (λ o. LineRead o (x ∷ take (length s - 1) (drop 1 s)) es ps es' ps' t r) (sym (behind x (take (length s - 1) (drop 1 s)) a b)) l)
+      subst (λ z. LineRead (line_here z) z t t' r) (sym (cut x e))
+      (subst (λ o. LineRead o (x ∷ take (length s - 1) (drop 1 s)) t t' r) (sym (behind x (take (length s - 1) (drop 1 s)) a b)) l)
 
 pub no_bytes : (s : List ℕ) (sh : Sheet) → length s < 1 → read_line (line_here s) sh ≡ refused 3
 unfolding read_line line_here ended
@@ -190,42 +191,50 @@ shorter [] h = absurd (cc)
 shorter (x ∷ s) h = shorter_by x s (eqb x 10) refl (shorter s) h
 
 -- the rest of the bytes, read into what was read of s, comes to the same as s
-pub record Along (s rest es ps : List ℕ) (t : LineCounts) : Type 0 where
-  pub same_end : read_lines (parts 10 s) no_lines ≡ read_lines (parts 10 rest) (sheet_of es ps t)
-  pub sound : Sound es ps t
+pub record Along (s rest : List ℕ) (sh : Sheet) (es ps : List ℕ) (t : LineCounts) : Type 0 where
+  pub same_end : read_lines (parts 10 s) sh ≡ read_lines (parts 10 rest) (sheet_of es ps t)
 
-pub begin : (s es ps : List ℕ) → Along s s es ps (record { exprs = 0; aggs = 0; steps = 0 })
-unfolding stored_exprs stored_steps table agg_entries sum
-begin s es ps =
-    record {
-      same_end = refl;
-      sound = record {
-        exprs = λ i h. absurd (not-suc-le-zero h);
-        steps = λ i h. absurd (not-suc-le-zero h);
-        aggs = refl;
-        few_exprs = omega arith;
-        few_steps = omega arith;
-      };
-    }
+pub begin : (s es ps : List ℕ) (t : LineCounts) → Along s s (sheet_of es ps t) es ps t
+begin s es ps t = record { same_end = refl }
 
 module _ (rest es ps es' ps' : List ℕ) (t t' : LineCounts) (n : ℕ) (l : LineTaken (line_here rest) rest es ps es' ps' t t' n) where
   pub within : n ≤ length rest
   within = let h = shorter rest l.whole in let e = l.long in omega arith
 
-  pub some_bytes : 1 ≤ n
-  some_bytes = let e = l.long in omega arith
-
-  pub turn : (s : List ℕ) → Along s rest es ps t → Along s (take (length rest - n) (drop n rest)) es' ps' t'
-  turn s a =
+  pub turn : (s : List ℕ) (sh : Sheet) → Along s rest sh es ps t → Along s (take (length rest - n) (drop n rest)) sh es' ps' t'
+  turn s sh a =
       record {
         same_end =
             a.same_end ∙ done_here rest (sheet_of es ps t) (sheet_of es' ps' t') l.whole l.taken
             ∙ ap (λ x. read_lines (parts 10 x) (sheet_of es' ps' t')) (ap (λ k. drop k rest) (sym l.long) ∙ sym (part_from rest n));
-        sound = l.sound;
       }
 
-pub refuses : (s rest es ps : List ℕ) (t : LineCounts) (k : ℕ) → Along s rest es ps t → 0 < length rest → read_line (line_here rest) (sheet_of es ps t) ≡ refused k → read_lines (parts 10 s) no_lines ≡ refused k
-refuses s rest es ps t k a h e = a.same_end ∙ refused_here rest (sheet_of es ps t) k h e
+pub refuses : (s rest es ps : List ℕ) (sh : Sheet) (t : LineCounts) (k : ℕ) → Along s rest sh es ps t → 0 < length rest → read_line (line_here rest) (sheet_of es ps t) ≡ refused k → read_lines (parts 10 s) sh ≡ refused k
+refuses s rest es ps sh t k a h e = a.same_end ∙ refused_here rest (sheet_of es ps t) k h e
 
-pub all_read : (s rest es ps : List ℕ) (t : LineCounts) → Along s rest es ps t → length rest ≡ 0 → AllTaken s es ps t
-all_read s rest es ps t a h = record { taken = a.same_end ∙ none_left rest (sheet_of es ps t) h; sound = a.sound }
+pub all_read : (s rest es ps : List ℕ) (sh : Sheet) (t : LineCounts) → Along s rest sh es ps t → length rest ≡ 0 → read_lines (parts 10 s) sh ≡ done (sheet_of es ps t)
+all_read s rest es ps sh t a h = a.same_end ∙ none_left rest (sheet_of es ps t) h
+
+-- From no line ---------------------------------------------------------------------------------------------------------------
+
+abbrev none_counted : LineCounts
+none_counted = record { exprs = 0; aggs = 0; steps = 0 }
+
+pub none_sound : (es ps : List ℕ) → Sound es ps none_counted
+unfolding stored_steps table agg_entries sum
+none_sound es ps =
+    record {
+      exprs = λ i h. absurd (not-suc-le-zero h);
+      steps = λ i h. absurd (not-suc-le-zero h);
+      aggs = refl;
+      few_exprs = omega arith;
+      few_steps = omega arith;
+    }
+
+pub from_none : (s es ps : List ℕ) {o : Outcome Sheet} → read_lines (parts 10 s) (sheet_of es ps none_counted) ≡ o → read_lines (parts 10 s) no_lines ≡ o
+unfolding stored_exprs stored_steps table
+from_none s es ps e = e
+
+pub all_taken : (s es ps : List ℕ) {es' ps' e p : List ℕ} {t : LineCounts}
+    → read_lines (parts 10 s) (sheet_of es ps none_counted) ≡ done (sheet_of es' ps' t) → Sound es' ps' t → e ≡ es' → p ≡ ps' → AllTaken s e p t
+all_taken s es ps l h f g = rw (f, g) (record { taken = from_none s es ps l; sound = h })

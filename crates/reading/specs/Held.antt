@@ -5,10 +5,7 @@ use Rattle.plan.specs.Kinds.{same_ir}
 use Rattle.plan.specs.Sheet.{Step, Sheet}
 use Rattle.storage.specs.Stored.{stored_step, stored_exprs, stored_steps, ExprFormed, StepFormed}
 
--- the counts in the bytes of an E line and of a P line
-abbrev pub children_of : List ℕ → ℕ → ℕ
-children_of es i = get_or es (i * 16 + 12) 0
-
+-- the counts in the bytes of a P line
 abbrev pub count_of : ℕ → List ℕ → ℕ → ℕ
 count_of k ps i = get_or ps (i * 32 + k) 0
 

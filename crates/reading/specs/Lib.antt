@@ -8,3 +8,4 @@ pub mod Lines
 pub mod Uses
 pub mod Marks
 pub mod Plan
+pub mod Taken

@@ -38,21 +38,20 @@ pub record Kept (ns v : List ℕ) : Type 0 where
   pub size : length v ≡ 32
   pub first : (i : ℕ) → i < 31 → i < length ns → get_or v i 0 ≡ get_or ns i 0
 
--- all the numbers were read
-pub record AllRead (s : List ℕ) (r : Numbers) (v : List ℕ) : Type 0 where
+-- all the numbers were read, len bytes with byte 10
+pub record AllRead (s : List ℕ) (len : ℕ) (n : Numbers) : Type 0 where
   pub list : List ℕ
   pub are : numbers_of s ≡ some list
-  pub count : r.count ≡ length list
-  pub kept : Kept list v
-  pub len : r.len ≡ suc (length (line s))
+  pub count : n.count ≡ length list
+  pub kept : Kept list n.kept
+  pub len_is : len ≡ suc (length (line s))
 
--- the line is broken. Which numbers v holds, is left free; it has its length
-pub record NoneRead (s : List ℕ) (e : Refusal) (v : List ℕ) : Type 0 where
+-- the line is broken. Which numbers are kept, is left free
+pub record NoneRead (s : List ℕ) (e : Refusal) : Type 0 where
   pub are : numbers_of s ≡ none
   pub answer : e ≡ Refusal.Form
-  pub size : length v ≡ 32
 
--- the answer for the bytes s, with the numbers in v
-abbrev pub NumbersRead : List ℕ → Result Numbers Refusal → List ℕ → Type 0
-NumbersRead s (Ok r) v = AllRead s r v
-NumbersRead s (Err e) v = NoneRead s e v
+-- the answer for the bytes s, with the numbers in n
+abbrev pub NumbersRead : List ℕ → Result ℕ Refusal → Numbers → Type 0
+NumbersRead s (Ok len) n = AllRead s len n
+NumbersRead s (Err e) n = NoneRead s e

@@ -1,17 +1,14 @@
 -- The lines as the code stores them.
-use Rattle.std.specs.Prelude.{◌≡◌, ℕ, suc, ◌+◌, ◌<◌, ◌≤◌, true, List, eqb, length, if◌then◌else◌, Result, Ok, Err}
-use Rattle.std.proofs.Math.Option.{Option}
+use Rattle.std.specs.Prelude.{◌≡◌, ℕ, ◌+◌, ◌<◌, ◌≤◌, List, length, if◌then◌else◌, Result, Ok, Err}
 use Rattle.std.proofs.Math.Seq.{paste}
 use Rattle.plan.specs.declared.ir.IR.{IR}
 use Rattle.plan.specs.declared.refusal.Refusal.{Refusal}
 use Rattle.plan.specs.Refusals.{refusal_number}
 use Rattle.plan.specs.Kinds.{same_ir}
 use Rattle.plan.specs.Lists.{sum}
-use Rattle.plan.specs.Sheet.{Sheet, Step, Line, refused, done, read_line, parts, read_lines, no_lines}
+use Rattle.plan.specs.Sheet.{Sheet, Step, refused, done, parts, read_lines, no_lines}
 use Rattle.storage.specs.Stored.{stored_exprs, stored_steps, ExprFormed, StepFormed}
-use Rattle.reading.specs.Line.{line, ended}
 use Rattle.reading.specs.declared.lines.LineCounts.{LineCounts}
-use Rattle.reading.specs.declared.lines.Reading.{Reading}
 
 -- d, with the n bytes from at on replaced by the first n of v
 unfoldable pub pasted : List ℕ → ℕ → List ℕ → ℕ → List ℕ
@@ -25,8 +22,8 @@ sheet_of es ps t = record { exprs = stored_exprs es t.exprs; steps = stored_step
 unfoldable pub agg_entries : List Step → ℕ
 agg_entries ss = sum (λ (s : Step). if same_ir s.kind IR.GroupBy then length s.aggs else 0) ss
 
-abbrev pub aggs_of : ℕ → ℕ → ℕ
-aggs_of kind n3 = if eqb kind 7 then n3 else 0
+abbrev pub aggs_of : IR → ℕ → ℕ
+aggs_of kind n3 = if same_ir kind IR.GroupBy then n3 else 0
 
 -- what holds of the bytes, whatever lines they hold
 pub record Sound (es ps : List ℕ) (t : LineCounts) : Type 0 where
@@ -35,17 +32,6 @@ pub record Sound (es ps : List ℕ) (t : LineCounts) : Type 0 where
   pub aggs : t.aggs ≡ agg_entries (stored_steps ps t.steps)
   pub few_exprs : t.exprs + t.aggs ≤ 128
   pub few_steps : t.steps ≤ 32
-
--- a line was read: es, ps before, es', ps' after it; s are the bytes at whose front the line o stands
-pub record LineTaken (o : Option Line) (s es ps es' ps' : List ℕ) (t t' : LineCounts) (n : ℕ) : Type 0 where
-  pub taken : read_line o (sheet_of es ps t) ≡ done (sheet_of es' ps' t')
-  pub sound : Sound es' ps' t'
-  pub whole : ended s ≡ true
-  pub long : n ≡ suc (length (line s))
-
-abbrev pub LineRead : Option Line → List ℕ → List ℕ → List ℕ → List ℕ → List ℕ → LineCounts → Result Reading Refusal → Type 0
-LineRead o s es ps es' ps' t (Err e) = read_line o (sheet_of es ps t) ≡ refused (refusal_number e)
-LineRead o s es ps es' ps' t (Ok r) = LineTaken o s es ps es' ps' t r.counts r.len
 
 -- all lines of s were read
 pub record AllTaken (s es ps : List ℕ) (t : LineCounts) : Type 0 where

@@ -1,20 +1,23 @@
--- Namings, counted up to 2.
-use Rattle.std.specs.Prelude.{◌≡◌, ℕ, zero, suc, ◌<◌, Bool, ◌||◌, not, List, [], ◌∷◌, ◌++◌, map, eqb, get_or, length, if◌then◌else◌}
+-- Namings: a count for each of 256 numbers, up to 2.
+use Rattle.std.specs.Prelude.{Option, None, Some, ℕ, ◌+◌, Bool, ◌||◌, not, List, [], ◌∷◌, ◌++◌, map, eqb, ltb, get_or, set, replicate, if◌then◌else◌}
 use Rattle.plan.specs.declared.ir.IR.{IR}
 use Rattle.plan.specs.Kinds.{same_ir}
 use Rattle.plan.specs.Lists.{all?, concat_map, numbered, times}
 use Rattle.plan.specs.Sheet.{Expr, Step, Sheet}
 use Rattle.plan.specs.Faults.{lines, exprs_named, named, use_right, use_number, id_right, use_fault, first_fault}
 
-unfoldable pub capped : ℕ → ℕ
-capped zero = 0
-capped (suc zero) = 1
-capped (suc (suc n)) = 2
+-- no number is named
+abbrev pub none_named : List ℕ
+none_named = replicate 256 0
 
--- counts hold how often each number stands among the names, up to 2
-pub record Counted (counts names : List ℕ) : Type 0 where
-  pub size : length counts ≡ 256
-  pub each : (i : ℕ) → i < 256 → get_or counts i 0 ≡ capped (times i names)
+-- the counts with one more naming of q
+unfoldable pub named_once : List ℕ → ℕ → List ℕ
+named_once counts q = if ltb (get_or counts q 0) 2 then set counts q (get_or counts q 0 + 1) else counts
+
+-- with one more of each of the names
+unfoldable pub named_each : List ℕ → List ℕ → List ℕ
+named_each counts [] = counts
+named_each counts (q ∷ names) = named_each (named_once counts q) names
 
 unfoldable pub all_children : List Expr → List ℕ
 all_children es = concat_map (λ (e : Expr). e.children) es
@@ -35,6 +38,18 @@ expr_fault_in names (i, e) = if eqb (times i names) 1 then 0 else use_number (ti
 abbrev pub step_fault_in : List ℕ → ℕ × Step → ℕ
 step_fault_in names (n, s) = if use_right s.kind (times n names) then 0 else use_number (times n names)
 
+-- the same by counts
+abbrev pub expr_fault_by : List ℕ → ℕ × Expr → ℕ
+expr_fault_by counts (i, e) = if eqb (get_or counts i 0) 1 then 0 else use_number (get_or counts i 0)
+
+abbrev pub step_fault_by : List ℕ → ℕ × Step → ℕ
+step_fault_by counts (n, s) = if use_right s.kind (get_or counts n 0) then 0 else use_number (get_or counts n 0)
+
+-- by the first line that is not named rightly, if there is one
+abbrev pub first_number : List ℕ → Option ℕ → ℕ
+first_number counts None = 0
+first_number counts (Some i) = use_number (get_or counts i 0)
+
 -- what the pass comes to, 0 if no line is at fault: over all lines, over the E lines, over the P lines
 unfoldable pub uses_fault : Sheet → ℕ
 uses_fault sh = first_fault (map (use_fault sh) (lines sh))
@@ -53,3 +68,6 @@ ids_once ss = all? (id_right ss) (numbered 0 ss)
 -- for any names
 abbrev pub id_once_in : List ℕ → ℕ × Step → Bool
 id_once_in names (n, s) = not (same_ir s.kind IR.Cache) || eqb (times s.a names) 1
+
+abbrev pub id_once_by : List ℕ → ℕ × Step → Bool
+id_once_by counts (n, s) = not (same_ir s.kind IR.Cache) || eqb (get_or counts s.a 0) 1

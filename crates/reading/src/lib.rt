@@ -15,9 +15,9 @@ pub mod fields; // fields.rt: struct fields under an evaluation child
 pub mod held; // held.rt: stored lines, lent with their number
 pub mod line; // line.rt: the numbers of a line
 pub mod lines; // lines.rt: the lines, one after the other, as they are stored
+pub mod namings; // namings.rt: how often numbers are named
 pub mod number; // number.rt: a number of a line
 pub mod references; // references.rt: what lines refer to
-pub mod stored; // stored.rt: what is read of a stored line
 pub mod tables; // tables.rt: what each kind of line may have
 pub mod uses; // uses.rt: how often lines are named, and ids
 
@@ -52,7 +52,8 @@ fn check_plan(exprs: ExprLines<'_>, steps: StepLines<'_>) -> Result<Counts, Refu
     })
 }
 
-// A sheet's plan: its lines stand in the two buffers as storage/specs/Stored says. What the buffers hold after a refusal is left free.
+// A sheet's plan: its lines stand in the two buffers as storage/specs/Stored says. What the buffers hold after a refusal is left free, so they
+// are no Records and Steps yet: the caller makes them so by the counts.
 pub fn read_plan(
     sheet: &[u8],
     exprs: &mut [u8; 2048],

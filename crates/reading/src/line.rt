@@ -1,16 +1,16 @@
 // The numbers of a line: each behind a comma, up to byte 10.
-ghost use Rattle.std.specs.Prelude.{◌≡◌, length};
+ghost use Rattle.std.specs.Prelude.{◌≡◌, ◌+◌, ◌<◌, ◌^◌, length};
 ghost use Rattle.reading.specs.Field.{field_at};
-ghost use Rattle.reading.specs.Line.{placed, NumbersRead};
 
 use crate::number::{Number, read_number};
 use plan::refusal::Refusal;
 
-// How many numbers a line has, and the length of all of them with byte 10.
-#[derive(Clone, Copy)]
+// All are counted, the first 31 kept. No line within the tables has more.
+#[derive(Drop)]
 pub struct Numbers {
-    pub len: usize,
+    pub kept: [u8; 32],
     pub count: usize,
+    pub ghost sized: { length kept ≡ 32 },
 }
 
 // What stands at the front of the bytes: a comma and a number, whose width is that of both, or byte 10, which is none.
@@ -28,29 +28,42 @@ pub fn read_field(s: &[u8]) -> Result<Option<Number>, Refusal>
     }
 }
 
-// The at-th number of a line: all are counted, the first 31 kept. No line within the tables has more.
-fn keep(v: &mut [u8; 32], at: usize, x: u8)
-    ensures { v.new ≡ placed v.old at x }
-{
-    if at < 31 {
-        v[at] = x;
-    }
-}
+impl Numbers {
+    ghost use Rattle.reading.specs.Line.{placed, NumbersRead};
 
-// The numbers that follow a line's letter. They are stored as they are met: a struct that held them would be copied for each.
-pub fn read_numbers(s: &[u8], v: &mut [u8; 32]) -> Result<Numbers, Refusal>
-    requires { length v.old ≡ 32 }
-    ensures { NumbersRead s.now result v.new }
-{
-    let mut len: usize = 0;
-    let mut count: usize = 0;
-    let mut rest = s;
-    while let Some(number) = read_field(rest)? {
-        keep(v, count, number.value);
-        len += number.width;
-        count += 1;
-        rest = &rest[number.width..];
+    pub fn new() -> Numbers
+        ensures { result.count ≡ 0 }
+    {
+        Numbers {
+            kept: [0; 32],
+            count: 0,
+        }
     }
-    let len = len + 1;
-    Ok(Numbers { len, count })
+
+    fn push(&mut self, x: u8)
+        requires { self.old.count + 1 < 2 ^ 64 }
+        ensures { (self.new.kept ≡ placed self.old.kept self.old.count x) × (self.new.count ≡ self.old.count + 1) }
+    {
+        if self.count < 31 {
+            self.kept[self.count] = x;
+        }
+        self.count += 1;
+    }
+
+    // The numbers that follow a line's letter, and the length of all of them with byte 10. No iterator: it would have to be a type of this
+    // crate's own, which ends by byte 10 or a refusal, and its `enumerate` would give the place of each number but not how many there were.
+    // What was kept before is gone.
+    pub fn read(&mut self, s: &[u8]) -> Result<usize, Refusal>
+        ensures { NumbersRead s.now result self.new }
+    {
+        self.count = 0;
+        let mut len: usize = 1;
+        let mut rest = s;
+        while let Some(number) = read_field(rest)? {
+            self.push(number.value);
+            len += number.width;
+            rest = &rest[number.width..];
+        }
+        Ok(len)
+    }
 }

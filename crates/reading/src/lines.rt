@@ -1,10 +1,10 @@
 // The lines of a sheet, one after the other: each is read, checked and stored (refusals 3, 4, 5).
-ghost use Rattle.std.specs.Prelude.{◌≡◌, List, [], ◌∷◌, ℕ, ◌+◌, ◌*◌, ◌≤◌, ◌<◌, length, set};
+ghost use Rattle.std.specs.Prelude.{◌≡◌, [], ◌∷◌, ◌+◌, ◌*◌, ◌≤◌, ◌<◌, length, set};
 ghost use Rattle.plan.specs.Sheet.{lettered};
 ghost use Rattle.reading.specs.Line.{numbers_of, line_here};
-ghost use Rattle.reading.specs.Lines.{pasted, aggs_of, Sound, LineRead, LinesRead};
+ghost use Rattle.reading.specs.Lines.{pasted, aggs_of, Sound, LinesRead};
 
-use crate::line::read_numbers;
+use crate::line::Numbers;
 use crate::tables::{expr_fits, step_fits};
 use plan::ir::IR;
 use plan::refusal::Refusal;
@@ -17,11 +17,13 @@ pub struct LineCounts {
     pub steps: usize,
 }
 
-// A line that was taken: the counts with it, and its length.
-#[derive(Clone, Copy)]
-pub struct Reading {
+// The lines that were taken: stored in two lent buffers, and counted.
+#[derive(Drop)]
+pub struct Taken<'a> {
+    pub exprs: &'a mut [u8; 2048],
+    pub steps: &'a mut [u8; 1024],
     pub counts: LineCounts,
-    pub len: usize,
+    pub ghost sound: { Sound exprs.now steps.now counts },
 }
 
 // The numbers of the i-th E line, with the count of its children.
@@ -42,83 +44,86 @@ fn store_step(steps: &mut [u8; 1024], i: usize, v: [u8; 32])
     steps[i * 32..i * 32 + 32].copy_from_slice(&v);
 }
 
-fn agg_entries(kind: u8, n3: u8) -> usize
+fn agg_entries(kind: IR, n3: u8) -> usize
     ensures { (result ≡ aggs_of kind n3) × (result < 256) }
 {
-    if kind == u8::from(IR::GroupBy) {
+    if kind == IR::GroupBy {
         return usize::from(n3);
     }
     0
 }
 
-// What follows an E line's letter. No E line comes after a P line.
-fn read_expr(s: &[u8], exprs: &mut [u8; 2048], t: LineCounts) -> Result<Reading, Refusal>
-    ensures { (ps : List ℕ) → Sound exprs.old ps t → LineRead (lettered (69 ∷ []) (numbers_of s.now)) (69 ∷ s.now) exprs.old ps exprs.new ps t result }
-{
-    let mut v = [0u8; 32];
-    let f = read_numbers(s, &mut v)?;
-    if f.count < 4 || t.steps != 0 {
-        return Err(Refusal::Form);
-    }
-    let count = f.count - 4;
-    if !expr_fits(&v, count) {
-        return Err(Refusal::Table);
-    }
-    if 128 <= t.exprs {
-        return Err(Refusal::Limits);
-    }
-    store_expr(exprs, t.exprs, v, count as u8);
-    Ok(Reading {
-        counts: LineCounts {
-            exprs: t.exprs + 1,
-            ..t
-        },
-        len: f.len + 1,
-    })
-}
+impl Taken<'_> {
+    ghost use Rattle.reading.specs.Taken.{LineRead, AllRead, SameBuffers};
 
-// What follows a P line's letter.
-fn read_step(s: &[u8], steps: &mut [u8; 1024], t: LineCounts) -> Result<Reading, Refusal>
-    requires { (t.exprs + t.aggs ≤ 128) × (t.steps ≤ 32) }
-    ensures { (es : List ℕ) → Sound es steps.old t → LineRead (lettered (80 ∷ []) (numbers_of s.now)) (80 ∷ s.now) es steps.old es steps.new t result }
-{
-    let mut v = [0u8; 32];
-    let f = read_numbers(s, &mut v)?;
-    if f.count < 7 {
-        return Err(Refusal::Form);
+    // What follows an E line's letter. No E line comes after a P line.
+    fn read_expr(&mut self, s: &[u8]) -> Result<usize, Refusal>
+        ensures same { SameBuffers self.old self.new }
+        ensures line { LineRead (lettered (69 ∷ []) (numbers_of s.now)) (69 ∷ s.now) self.old self.new result }
+    {
+        let mut numbers = Numbers::new();
+        let len = numbers.read(s)?;
+        if numbers.count < 4 || self.counts.steps != 0 {
+            return Err(Refusal::Form);
+        }
+        let count = numbers.count - 4;
+        if !expr_fits(&numbers.kept, count) {
+            return Err(Refusal::Table);
+        }
+        if 128 <= self.counts.exprs {
+            return Err(Refusal::Limits);
+        }
+        store_expr(self.exprs, self.counts.exprs, numbers.kept, count as u8);
+        self.counts.exprs += 1;
+        Ok(len + 1)
     }
-    if !step_fits(&v, f.count) {
-        return Err(Refusal::Table);
-    }
-    let aggs = t.aggs + agg_entries(v[0], v[6]);
-    if 32 <= t.steps || 128 < t.exprs + aggs {
-        return Err(Refusal::Limits);
-    }
-    store_step(steps, t.steps, v);
-    Ok(Reading {
-        counts: LineCounts {
-            aggs,
-            steps: t.steps + 1,
-            ..t
-        },
-        len: f.len + 1,
-    })
-}
 
-// The line at the front of the bytes.
-fn read_line(
-    s: &[u8],
-    exprs: &mut [u8; 2048],
-    steps: &mut [u8; 1024],
-    t: LineCounts,
-) -> Result<Reading, Refusal>
-    requires { Sound exprs.old steps.old t }
-    ensures { LineRead (line_here s.now) s.now exprs.old steps.old exprs.new steps.new t result }
-{
-    match s {
-        [b'E', rest @ ..] => read_expr(rest, exprs, t),
-        [b'P', rest @ ..] => read_step(rest, steps, t),
-        _ => Err(Refusal::Form),
+    // What follows a P line's letter.
+    fn read_step(&mut self, s: &[u8]) -> Result<usize, Refusal>
+        ensures same { SameBuffers self.old self.new }
+        ensures line { LineRead (lettered (80 ∷ []) (numbers_of s.now)) (80 ∷ s.now) self.old self.new result }
+    {
+        let mut numbers = Numbers::new();
+        let len = numbers.read(s)?;
+        if numbers.count < 7 {
+            return Err(Refusal::Form);
+        }
+        if !step_fits(&numbers.kept, numbers.count) {
+            return Err(Refusal::Table);
+        }
+        let aggs = self.counts.aggs + agg_entries(IR::of_number(numbers.kept[0]), numbers.kept[6]);
+        if 32 <= self.counts.steps || 128 < self.counts.exprs + aggs {
+            return Err(Refusal::Limits);
+        }
+        store_step(self.steps, self.counts.steps, numbers.kept);
+        self.counts.aggs = aggs;
+        self.counts.steps += 1;
+        Ok(len + 1)
+    }
+
+    // The line at the front of the bytes.
+    fn read_line(&mut self, s: &[u8]) -> Result<usize, Refusal>
+        ensures same { SameBuffers self.old self.new }
+        ensures line { LineRead (line_here s.now) s.now self.old self.new result }
+    {
+        match s {
+            [b'E', rest @ ..] => self.read_expr(rest),
+            [b'P', rest @ ..] => self.read_step(rest),
+            _ => Err(Refusal::Form),
+        }
+    }
+
+    // The lines of all the bytes.
+    fn read_lines(&mut self, sheet: &[u8]) -> Result<(), Refusal>
+        ensures same { SameBuffers self.old self.new }
+        ensures lines { AllRead sheet.now self.old self.new result }
+    {
+        let mut rest = sheet;
+        while !rest.is_empty() {
+            let len = self.read_line(rest)?;
+            rest = &rest[len..];
+        }
+        Ok(())
     }
 }
 
@@ -130,16 +135,16 @@ pub fn read_lines(
 ) -> Result<LineCounts, Refusal>
     ensures { LinesRead sheet.now exprs.new steps.new result }
 {
-    let mut t = LineCounts {
+    let counts = LineCounts {
         exprs: 0,
         aggs: 0,
         steps: 0,
     };
-    let mut rest = sheet;
-    while !rest.is_empty() {
-        let line = read_line(rest, exprs, steps, t)?;
-        t = line.counts;
-        rest = &rest[line.len..];
-    }
-    Ok(t)
+    let mut taken = Taken {
+        exprs,
+        steps,
+        counts,
+    };
+    taken.read_lines(sheet)?;
+    Ok(taken.counts)
 }

@@ -1,15 +1,18 @@
-// What the lines refer to: children and inputs on earlier lines, expressions that are E lines, no Sink as input (refusal 7).
+// What the lines refer to: children and inputs on earlier lines, expressions that are E lines, no Sink as input (refusal 7). What is asked of
+// one line goes by bytes and its place, as what is lent out of it does (storage/src/lines.rt).
 ghost use Rattle.std.specs.Prelude.{◌≡◌, List, ℕ, ◌≤◌, ◌<◌, ltb};
 ghost use Rattle.plan.specs.Lists.{all?, numbered};
 ghost use Rattle.plan.specs.Sheet.{Expr};
 ghost use Rattle.plan.specs.Faults.{lines, children_earlier, inputs_earlier, references_right};
 ghost use Rattle.storage.specs.Stored.{stored_expr, stored_step, stored_exprs, stored_steps};
-ghost use Rattle.reading.specs.Held.{children_of, StepHeld, both, before_no_sink};
+ghost use Rattle.storage.specs.Lines.{children_count};
+ghost use Rattle.reading.specs.Held.{StepHeld, both, before_no_sink};
 ghost use Rattle.reading.specs.Lent.{exprs_in, steps_in, sheet_in};
 
 use crate::held::{ExprLines, StepLines};
-use crate::stored::{children_of, exprs_of, inputs_of};
-use storage::steps::is_sink;
+use plan::ir::IR;
+use storage::lines::{children_of, exprs_of, inputs_of};
+use storage::steps::is_kind;
 
 fn all_below(numbers: &[u8], limit: usize) -> bool
     ensures { result ≡ all? (λ q. ltb q limit) numbers.now }
@@ -18,7 +21,7 @@ fn all_below(numbers: &[u8], limit: usize) -> bool
 }
 
 fn children_earlier(exprs: &[u8; 2048], i: usize) -> bool
-    requires { (i < 128) × (children_of exprs.now i ≤ 8) }
+    requires { (i < 128) × (children_count exprs.now i ≤ 8) }
     ensures { result ≡ children_earlier (i, stored_expr exprs.now i) }
 {
     all_below(children_of(exprs, i), i)
@@ -35,7 +38,7 @@ fn before_no_sink(steps: &[u8; 1024], i: usize, m: usize) -> bool
     requires { i ≤ 32 }
     ensures { result ≡ before_no_sink steps.now i m }
 {
-    m < i && !is_sink(steps, m)
+    m < i && !is_kind(steps, m, IR::Sink)
 }
 
 // The inputs stand on earlier lines, and none is a Sink.

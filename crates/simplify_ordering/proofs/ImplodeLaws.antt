@@ -35,7 +35,7 @@ module _ (a : Arena) (q : ℕ) (more : a.records.count < 128) (lower : q < a.rec
   pub implode_law : arena_of exit (set lines.holds n n) (set lines.off n false) (n + 1) ≡ arena_in a ++ (implode_over q ∷ [])
   implode_law =
       arena_appended a.records.bytes lines.holds lines.off n (implode_over q) exit new (omega (arith, lines.sized)) (omega (arith, lines.off_sized)) held.formed
-      (λ p h. lines.below p (omega arith))
+      a.below
 
   formed_more : (l : ℕ) → l < n + 1 → Dec (l ≡ n) → ExprFormed exit l
   formed_more l h (yes e) = subst (ExprFormed exit) (sym e) new.formed

@@ -149,8 +149,27 @@ module _ (s : Step) (es : List Expr) where
   unfolding with_implodes
   ungrouped h = rw h
 
-pub same_step : (ps : List Step) (i : ℕ) → ps ≡ set ps i (with_aggs (step_at ps i).aggs (step_at ps i))
-same_step ps i = sym (set-get_or ps i no_step)
+-- what comes of a step of the kind, and of any other
+module _ (i : ℕ) (s s' : Steps) (a a' : Arena) where
+  abbrev before : Step
+  before = step_at (steps_in s) i
+
+  pub record Imploded : Type 0 where
+    pub arena : arena_in a' ≡ (with_implodes before (arena_in a)).1
+    pub steps : steps_in s' ≡ set (steps_in s) i (with_aggs (with_implodes before (arena_in a)).0 before)
+    pub count : s'.count ≡ s.count
+
+  pub when_grouped : same_ir before.kind IR.GroupBy ≡ true → arena_in a' ≡ (imploded before.aggs (arena_in a)).1
+      → steps_in s' ≡ set (steps_in s) i (with_aggs (imploded before.aggs (arena_in a)).0 before) → s'.count ≡ s.count → Imploded
+  when_grouped h arena steps count = let g = grouped before (arena_in a) h in record { arena = rw g arena; steps = rw g steps; count = count }
+
+  pub when_not : same_ir before.kind IR.GroupBy ≡ false → a' ≡ a → s' ≡ s → Imploded
+  when_not h arena steps =
+      let g = ungrouped before (arena_in a) h in record {
+        arena = rw (g, arena);
+        steps = rw (g, steps) (sym (set-get_or (steps_in s) i no_step));
+        count = rw steps;
+      }
 
 -- there is room for the Implodes
 pub start_room : (s : Step) (e : Around) (es : List Expr) (looks : Tally) → Listed (looks_of s e es looks) → length (with_implodes s es).1 ≤ 128

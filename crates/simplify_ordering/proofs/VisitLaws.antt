@@ -64,10 +64,10 @@ state es ps ds back removed tally =
 -- A visit that removes nothing ---------------------------------------------------------------------------------------------------------
 
 -- v is the step as the visit finds it
-module _ (es : List Expr) (ps : List Step) (ds : List Edge) (v : Found) (tally : Tally) (here : v.node < length ps)
-    (options_are : v.options ≡ options_of (step_at ps v.node)) (around_is : v.around ≡ around v.node ds) where
+module _ (es : List Expr) (ps : List Step) (ds : List Edge) (v : Found) (tally : Tally) (here : v.ins.of < length ps)
+    (options_are : v.options ≡ options_of (step_at ps v.ins.of)) (around_is : v.around ≡ around v.ins.of ds) where
   abbrev n : ℕ
-  n = v.node
+  n = v.ins.of
 
   abbrev l : Looked
   l = looks_of (step_at ps n) (around n ds) es tally

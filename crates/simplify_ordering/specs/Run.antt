@@ -22,17 +22,17 @@ SameSize r r' = (r'.steps.count ≡ r.steps.count) × (r'.edges.count ≡ r.edge
 -- A step as a visit finds it ---------------------------------------------------------------------------------------------------------
 
 pub record Finds (ends : List ℕ) (r : StoredRun) (v : Found) : Type 0 where
-  pub there : v.node < r.steps.count
-  pub options_are : v.options ≡ options_of (step_at (steps_in r.steps) v.node)
-  pub run : InRun ends r.edges.count v.node v.ins
-  pub around_is : v.around ≡ around v.node (edges_in ends r.edges)
+  pub there : v.ins.of < r.steps.count
+  pub options_are : v.options ≡ options_of (step_at (steps_in r.steps) v.ins.of)
+  pub run : InRun ends r.edges.count v.ins
+  pub around_is : v.around ≡ around v.ins.of (edges_in ends r.edges)
 
 -- A step settled by its rule, its looks made ---------------------------------------------------------------------------------------
 
 -- ps and ds are the steps and the edges before, ps' and ds' those after
 pub record RuledBy (v : Found) (o : Observable) (ps : List Step) (ds : List Edge) (ps' : List Step) (ds' : List Edge) : Type 0 where
-  pub steps : ps' ≡ set ps v.node (with_options (rule rust_functions v.options v.around o).options (step_at ps v.node))
-  pub edges : ds' ≡ map (loosened v.node (rule rust_functions v.options v.around o).loosened) ds
+  pub steps : ps' ≡ set ps v.ins.of (with_options (rule rust_functions v.options v.around o).options (step_at ps v.ins.of))
+  pub edges : ds' ≡ map (loosened v.ins.of (rule rust_functions v.options v.around o).loosened) ds
 
 -- The answer of a visit ---------------------------------------------------------------------------------------------------------------
 

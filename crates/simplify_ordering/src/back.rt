@@ -3,7 +3,8 @@ ghost use Rattle.std.specs.Prelude.{◌≡◌, ◌+◌, ◌≤◌, ◌<◌, ◌^
 
 use crate::visit::Visited;
 
-// They are stored from the end of the array on, the last one first: from `at`. Fixed memory: a plan has at most 288 places.
+// They are stored from the end of the array on, the last one first: from `at`, so that both walks go along a slice; a list filled from its
+// front would have to be turned first. Fixed memory: a plan has at most 288 places.
 #[derive(Drop)]
 pub struct Back {
     pub places: [u8; 288],

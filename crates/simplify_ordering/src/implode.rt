@@ -29,8 +29,9 @@ pub fn append_implode(arena: &mut Arena, q: u8)
     let n = records.count;
     store_implode(&mut records.bytes, n, q);
     records.count = n + 1;
-    arena.lines.holds[n] = n as u8;
-    arena.lines.off[n] = false;
+    let lines = &mut arena.lines;
+    lines.holds[n] = n as u8;
+    lines.off[n] = false;
 }
 
 // Entry k of the n3 list of step i, which is q: an Implode takes its place, if it is no scalar.
@@ -52,7 +53,7 @@ fn implode_agg(steps: &mut Steps, i: usize, k: usize, arena: &mut Arena, q: u8)
     steps.store_agg(i, k, n);
 }
 
-// An Implode over each entry of step i's n3 list that is no scalar.
+// An Implode over each entry of step i's n3 list that is no scalar. That the entries are earlier lines is asked, as looks.rt says.
 pub fn append_implodes(steps: &mut Steps, i: usize, arena: &mut Arena)
     requires step { i < steps.old.count }
     requires earlier { (q : ℕ) → Memᴰ q (step_at (steps_in steps.old) i).aggs → q < arena.old.records.count }
@@ -62,7 +63,7 @@ pub fn append_implodes(steps: &mut Steps, i: usize, arena: &mut Arena)
     ensures steps { steps_in steps.new ≡ set (steps_in steps.old) i (with_aggs (imploded (step_at (steps_in steps.old) i).aggs (arena_in arena.old)).0 (step_at (steps_in steps.old) i)) }
 {
     let aggs = steps.aggs(i);
-    for k in 0..usize::from(aggs.count) {
-        implode_agg(steps, i, k, arena, aggs.nodes[k]);
+    for (k, q) in aggs.as_slice().iter().enumerate() {
+        implode_agg(steps, i, k, arena, *q);
     }
 }

@@ -1,8 +1,8 @@
 // The looks of a visit: the lists of its step, with GroupBy's Implodes.
-ghost use Rattle.std.specs.Prelude.{◌≡◌, ℕ, ◌≤◌, ◌<◌, length, set};
+ghost use Rattle.std.specs.Prelude.{◌≡◌, ℕ, ◌<◌};
 ghost use mathlib.Core.List.{Memᴰ};
 ghost use Rattle.plan.specs.Sheet.{step_at};
-ghost use Rattle.plan.specs.Visit.{with_implodes, with_aggs, looks_of, options_of};
+ghost use Rattle.plan.specs.Visit.{looks_of, options_of};
 ghost use Rattle.storage.specs.Entries.{list_of};
 ghost use Rattle.storage.specs.Held.{arena_in, steps_in};
 ghost use Rattle.simplify_ordering.specs.Looks.{ListsAsk, ListsGive, Listed, LooksGive};
@@ -39,11 +39,9 @@ fn look_at_lists(
         return NOTHING;
     }
     let mut cache = [None; 128];
-    let records = &arena.records;
-    let lines = &mut arena.lines;
     let new = expr_order_simplifier();
-    let mid = simplify_projected_exprs(records, lines, &mut cache, new, exprs, allow);
-    let end = simplify_projected_exprs(records, lines, &mut cache, mid, aggs, false);
+    let mid = simplify_projected_exprs(arena, &mut cache, new, exprs, allow);
+    let end = simplify_projected_exprs(arena, &mut cache, mid, aggs, false);
     count_looks(tally, end.looks());
     Observable {
         exprs: mid.answer(),
@@ -52,22 +50,8 @@ fn look_at_lists(
     }
 }
 
-// GroupBy's Implodes; any other step has none.
-fn with_implodes(steps: &mut Steps, i: usize, arena: &mut Arena, kind: IR)
-    requires step { i < steps.old.count }
-    requires its_kind { kind ≡ (step_at (steps_in steps.old) i).kind }
-    requires earlier { (q : ℕ) → Memᴰ q (step_at (steps_in steps.old) i).aggs → q < arena.old.records.count }
-    requires room { length (with_implodes (step_at (steps_in steps.old) i) (arena_in arena.old)).1 ≤ 128 }
-    ensures arena { arena_in arena.new ≡ (with_implodes (step_at (steps_in steps.old) i) (arena_in arena.old)).1 }
-    ensures count { steps.new.count ≡ steps.old.count }
-    ensures steps { steps_in steps.new ≡ set (steps_in steps.old) i (with_aggs (with_implodes (step_at (steps_in steps.old) i) (arena_in arena.old)).0 (step_at (steps_in steps.old) i)) }
-{
-    if kind == IR::GroupBy {
-        append_implodes(steps, i, arena);
-    }
-}
-
-// The looks at the lists of step i, whose options are s and whose edges are e.
+// The looks at the lists of step i, whose options are s and whose edges are e. GroupBy's Implodes come first. That the n3 list's entries are
+// earlier lines is asked here and handed on: as a fact of a run it would be kept by each change of a step, and visits alone need it.
 pub fn looks_of(
     steps: &mut Steps,
     i: usize,
@@ -83,7 +67,9 @@ pub fn looks_of(
     ensures looked { LooksGive (looks_of (step_at (steps_in steps.old) i) e (arena_in arena.old) tally.old) i (steps_in steps.old) (steps_in steps.new) (arena_in arena.new) tally.new result }
     ensures count { steps.new.count ≡ steps.old.count }
 {
-    with_implodes(steps, i, arena, s.kind);
+    if s.kind == IR::GroupBy {
+        append_implodes(steps, i, arena);
+    }
     let exprs = steps.exprs(i);
     let aggs = steps.aggs(i);
     look_at_lists(arena, tally, exprs, aggs, allow_deordering_top(s, e))

@@ -14,7 +14,8 @@ ghost use Rattle.simplify_ordering.specs.Run.{SameSize, Finds, RuledBy, Comes, S
 
 use crate::looks::looks_of;
 use crate::run::StoredRun;
-use node_rules::around::{InEdges, around_step, in_edges_of};
+use node_rules::around::{around_step, in_edges_of};
+use node_rules::in_edges::InEdges;
 use node_rules::loosen::loosen_edges;
 use node_rules::rules::{check_keys, rule_of};
 use node_rules::unlink::unlink_node;
@@ -24,10 +25,9 @@ use plan::rules::{Around, Observable, Options};
 use storage::stored::{Edges, Steps};
 use tally::count_visit;
 
-// A step as a visit finds it: its number, its options, the edges into it, and which of its edges are unordered.
+// A step as a visit finds it: its options, its number and the edges into it, and which of its edges are unordered.
 #[derive(Clone, Copy)]
 pub struct Found {
-    pub node: u8,
     pub options: Options,
     pub ins: InEdges,
     pub around: Around,
@@ -48,8 +48,8 @@ fn settle_by_rule(
     v: Found,
     o: Observable,
 ) -> Result<(), Refusal>
-    requires step { v.node < steps.old.count }
-    requires its_edges { InRun ends.now edges.old.count v.node v.ins }
+    requires step { v.ins.of < steps.old.count }
+    requires its_edges { InRun ends.now edges.old.count v.ins }
     ensures fault { fault_number result ≡ refusal_number v.options o }
     ensures ruled { OnOk result (RuledBy v o (steps_in steps.old) (edges_in ends.now edges.old) (steps_in steps.new) (edges_in ends.now edges.new)) }
     ensures unchanged { OnErr result ((steps.new.bytes ≡ steps.old.bytes) × (edges.new.bytes ≡ edges.old.bytes)) }
@@ -57,19 +57,19 @@ fn settle_by_rule(
 {
     check_keys(v.options, o)?;
     let r = rule_of(v.options, v.around, o);
-    steps.store_options(usize::from(v.node), r.options);
-    loosen_edges(ends, edges, v.node, v.ins, r.loosened);
+    steps.store_options(usize::from(v.ins.of), r.options);
+    loosen_edges(ends, edges, v.ins, r.loosened);
     Ok(())
 }
 
 // A visit that removes nothing. Its looks are made and counted, whether it is refused or not.
 fn settle(run: &mut StoredRun, ends: &[u8; 544], v: Found) -> Result<Visited, Refusal>
     requires finds { Finds ends.now run.old v }
-    requires asks { SettleAsks v.node (run_of run.old ends.now [] []) }
-    ensures comes { Comes settle v.node (run_of run.old ends.now) (run_of run.new ends.now) result }
+    requires asks { SettleAsks v.ins.of (run_of run.old ends.now [] []) }
+    ensures comes { Comes settle v.ins.of (run_of run.old ends.now) (run_of run.new ends.now) result }
     ensures same_size { SameSize run.old run.new }
 {
-    let i = usize::from(v.node);
+    let i = usize::from(v.ins.of);
     let o = looks_of(
         &mut run.steps,
         i,
@@ -102,14 +102,13 @@ pub fn simplify_ir_node_orders(
 {
     let options = run.steps.options(usize::from(n));
     let ins = in_edges_of(ends, run.edges.count, n);
-    let around = around_step(&run.edges, n, ins);
+    let around = around_step(&run.edges, ins);
     if goes(options, around) {
-        unlink_node(&mut run.steps, ends, &mut run.edges, n, ins);
+        unlink_node(&mut run.steps, ends, &mut run.edges, ins);
         count_visit(&mut run.tally);
         return Ok(Visited::Removed);
     }
     let found = Found {
-        node: n,
         options,
         ins,
         around,

@@ -1,53 +1,43 @@
 -- Laws of the arena written out: a record copied, its option cleared, one line after the other.
 use mathlib.Core.Path.{◌≡◌, refl, sym, ap, ◌∙◌, subst}
-use Prim.Native.Nat.{ℕ, suc, ◌+◌, ◌*◌, ◌≤◌, ◌<◌}
+use Prim.Native.Nat.{ℕ, suc, ◌+◌, ◌-◌, ◌*◌, ◌≤◌, ◌<◌}
 use mathlib.Core.Logic.{◌≢◌}
 use native.Mathlib.Omega.{arith}
-use native.Mathlib.Decide.{ℕ_discrete}
+use native.Mathlib.Decide.{ℕ_discrete, dec_lt}
 use mathlib.Core.Bool.{Bool, true, false}
 use mathlib.Core.List.{List, [], ◌∷◌}
-use lib.ListN.{length, get_or, set, take, drop, length-set, length-drop}
-use lib.Seq.{get_or-set_same, get_or-set_other, drop-set-add}
+use lib.ListN.{length, get_or, set, take, drop, length-set, length-take, length-drop}
+use Rattle.std.specs.List.{CopiedTo, SameBelow, SameFrom}
+use lib.Seq.{get_or-set_other, drop-set-add}
 use Rattle.plan.specs.Sheet.{Expr, expr_of}
 use Rattle.plan.specs.Look.{switched_off}
 use Rattle.storage.specs.Stored.{stored_expr, stored_exprs, held_expr, arena_of, ExprFormed, LinesHeld}
 use Rattle.storage.specs.Exprs.{LineHeld, ExprStored}
 use Rattle.storage.proofs.Laws.{same_table}
-use Rattle.storage.proofs.RecordLaws.{sixteen, same_byte, same_sixteen, same_record, bytes_kept}
+use Rattle.storage.proofs.RecordLaws.{sixteen, same_bytes, same_sixteen, same_record, bytes_kept}
 
 -- A record copied ----------------------------------------------------------------------------------------------------------------
 
--- its first n bytes are, and no other record is touched
-pub record Copied (entry : List ℕ) (l p n : ℕ) (exit : List ℕ) : Type 0 where
-  pub size : length exit ≡ length entry
-  pub own : (k : ℕ) → k < n → get_or exit (p * 16 + k) 0 ≡ get_or entry (l * 16 + k) 0
-  pub others : (j : ℕ) → j ≢ p → sixteen exit j ≡ sixteen entry j
+module _ (entry exit : List ℕ) (l p : ℕ) (size : length exit ≡ length entry) (room : p * 16 + 16 ≤ length entry) (lower : l < p)
+    (own : CopiedTo entry exit (l * 16) (p * 16) (l * 16 + 16 - l * 16)) (below : SameBelow entry exit (p * 16))
+    (above : SameFrom entry exit (p * 16 + (l * 16 + 16 - l * 16))) where
+  copied : (k : ℕ) → k < 16 → get_or exit (p * 16 + k) 0 ≡ get_or entry (l * 16 + k) 0
+  copied k h =
+      let there : l * 16 + (p * 16 + k - p * 16) ≡ l * 16 + k = omega arith in
+      own (p * 16 + k) 0 (omega arith) (omega arith) ∙ ap (λ (i : ℕ). get_or entry i 0) there
 
-pub none_copied : (entry : List ℕ) (l p : ℕ) → Copied entry l p 0 entry
-none_copied entry l p = record { size = refl; own = λ k h. absurd (omega arith); others = λ j e. refl }
-
-module _ (entry : List ℕ) (l p : ℕ) (room : p * 16 + 16 ≤ length entry) (lower : l < p) where
-  pub one_copied : (k : ℕ) (bytes : List ℕ) → k < 16 → Copied entry l p k bytes → Copied entry l p (k + 1) (set bytes (p * 16 + k) (get_or bytes (l * 16 + k) 0))
-  one_copied k bytes few c =
-      record {
-        size = length-set bytes (p * 16 + k) v ∙ c.size;
-        own = λ j h. by j h (ℕ_discrete j k);
-        others = λ j e. bytes_kept bytes p j k v few e ∙ c.others j e;
-      }
+  untouched : (j : ℕ) → j ≢ p → sixteen exit j ≡ sixteen entry j
+  untouched j e = same_bytes exit entry j j (simp (length-take, length-drop) (rw size refl)) (λ k h. by k h (dec_lt j p))
     where
-      v : ℕ
-      v = get_or bytes (l * 16 + k) 0
+      by : (k : ℕ) → k < 16 → Dec (j < p) → get_or exit (j * 16 + k) 0 ≡ get_or entry (j * 16 + k) 0
+      by k h (yes b) = below (j * 16 + k) 0 (omega arith)
+      by k h (no b) = above (j * 16 + k) 0 (omega (arith, e))
 
-      by : (j : ℕ) → j < k + 1 → Dec (j ≡ k) → get_or (set bytes (p * 16 + k) v) (p * 16 + j) 0 ≡ get_or entry (l * 16 + j) 0
-      by j h (yes e) =
-          rw e (get_or-set_same bytes (p * 16 + k) v 0 (omega (arith, c.size)) ∙ same_byte bytes entry l l (c.others l (λ q. omega (arith, q))) k few)
-      by j h (no n) = get_or-set_other bytes (p * 16 + k) (p * 16 + j) v 0 (λ e. n (omega (arith, e))) ∙ c.own j (omega (arith, n))
-
-  pub all_copied : (k : ℕ) (bytes : List ℕ) → k ≡ 16 → ExprFormed entry l → Copied entry l p k bytes → ExprStored entry p (stored_expr entry l) bytes
-  all_copied k bytes e formed c =
-      let same = same_sixteen bytes entry p l (omega (arith, c.size)) (omega arith) (λ j h. c.own j (omega arith)) in
-      let (is, its) = same_record bytes entry p l same formed in
-      record { size = c.size; is = is; formed = its; others = λ j q f. same_record bytes entry j j (c.others j q) f }
+  pub record_copied : ExprFormed entry l → ExprStored entry p (stored_expr entry l) exit
+  record_copied formed =
+      let same = same_sixteen exit entry p l (omega (arith, size)) (omega arith) copied in
+      let (is, its) = same_record exit entry p l same formed in
+      record { size = size; is = is; formed = its; others = λ j q f. same_record exit entry j j (untouched j q) f }
 
 -- a record that is where it belongs
 pub own_record : (entry : List ℕ) (l p : ℕ) → l ≡ p → ExprFormed entry l → ExprStored entry p (stored_expr entry l) entry

@@ -9,3 +9,4 @@ pub mod EdgeStores
 pub mod ExprLaws
 pub mod Written
 pub mod Starts
+pub mod LineLaws

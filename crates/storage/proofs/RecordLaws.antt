@@ -19,13 +19,17 @@ byte_at bytes i k h = get_or-take 16 (drop (i * 16) bytes) k 0 h ∙ get_or-drop
 pub same_byte : (x y : List ℕ) (i j : ℕ) → sixteen x i ≡ sixteen y j → (k : ℕ) → k < 16 → get_or x (i * 16 + k) 0 ≡ get_or y (j * 16 + k) 0
 same_byte x y i j same k h = sym (byte_at x i k h) ∙ ap (λ (l : List ℕ). get_or l k 0) same ∙ byte_at y j k h
 
-pub same_sixteen : (x y : List ℕ) (i j : ℕ) → i * 16 + 16 ≤ length x → j * 16 + 16 ≤ length y
+pub same_bytes : (x y : List ℕ) (i j : ℕ) → length (sixteen x i) ≡ length (sixteen y j)
     → ((k : ℕ) → k < 16 → get_or x (i * 16 + k) 0 ≡ get_or y (j * 16 + k) 0) → sixteen x i ≡ sixteen y j
-same_sixteen x y i j room there same =
-    ext_get_or 0 (sixteen x i) (sixteen y j) (simp (length-take, length-drop) (omega arith))
+same_bytes x y i j size same =
+    ext_get_or 0 (sixteen x i) (sixteen y j) size
     (λ k h.
     let few : k < 16 = omega (arith, h, length-take 16 (drop (i * 16) x)) in
     byte_at x i k few ∙ same k few ∙ sym (byte_at y j k few))
+
+pub same_sixteen : (x y : List ℕ) (i j : ℕ) → i * 16 + 16 ≤ length x → j * 16 + 16 ≤ length y
+    → ((k : ℕ) → k < 16 → get_or x (i * 16 + k) 0 ≡ get_or y (j * 16 + k) 0) → sixteen x i ≡ sixteen y j
+same_sixteen x y i j room there same = same_bytes x y i j (simp (length-take, length-drop) (omega arith)) same
 
 -- A record of the same bytes -----------------------------------------------------------------------------------------------------
 

@@ -1,38 +1,28 @@
 -- What the bytes of a step are as the definition has it: its options and its lists.
 use mathlib.Core.Path.{◌≡◌, sym, ap, ◌∙◌}
-use Prim.Native.Nat.{ℕ, suc, ◌+◌, ◌*◌, ◌≤◌, ◌<◌}
+use Prim.Native.Nat.{ℕ, ◌+◌, ◌*◌, ◌≤◌, ◌<◌}
 use native.Mathlib.Omega.{arith}
-use mathlib.Core.List.{List, [], ◌∷◌, ◌++◌}
+use mathlib.Core.List.{List}
 use lib.ListN.{length, get_or, take, drop, length-drop}
-use lib.Seq.{drop-cons, drop-drop, take-append-le, length-take-le, get_or-take, get_or-drop}
+use lib.Seq.{drop-drop, take-take, length-take-le, get_or-take, get_or-drop}
 use Rattle.plan.specs.Kinds.{ir}
 use Rattle.plan.specs.Sheet.{Step, no_step, step_at, step_of}
 use Rattle.storage.specs.Stored.{stored_step, stored_steps, StepsHeld}
 use Rattle.storage.proofs.Laws.{table_at}
-use Rattle.storage.specs.declared.entries.Entries.{Entries}
+use Rattle.storage.specs.Entries.{entries_at}
 use Rattle.storage.specs.Steps.{IsList}
 
--- Eight bytes ----------------------------------------------------------------------------------------------------------------------
+-- A list out of eight bytes --------------------------------------------------------------------------------------------------------
 
-module _ (l : List ℕ) (b : ℕ) (room : b + 8 ≤ length l) where
-  abbrev pub eight : List ℕ
-  eight =
-      get_or l b 0 ∷ get_or l (b + 1) 0 ∷ get_or l (b + 2) 0 ∷ get_or l (b + 3) 0 ∷ get_or l (b + 4) 0 ∷ get_or l (b + 5) 0 ∷ get_or l (b + 6) 0
-      ∷ get_or l (b + 7) 0 ∷ []
+pub list_read : (bytes : List ℕ) (b count : ℕ) → b + 8 ≤ length bytes → count ≤ 8 → IsList (take count (drop b bytes)) (entries_at bytes b count)
+list_read bytes b count room few =
+    record {
+      is = take-take count 8 (drop b bytes) few;
+      few = few;
+      room = length-take-le 8 (drop b bytes) (omega (arith, room, length-drop b bytes));
+    }
 
-  next : (j : ℕ) → j < 8 → drop (b + j) l ≡ get_or l (b + j) 0 ∷ drop (b + suc j) l
-  next j h =
-      let q : b + suc j ≡ suc (b + j) = omega arith in
-      rw q (drop-cons l (b + j) 0 (omega arith))
-
-  begins : drop b l ≡ eight ++ drop (b + 8) l
-  begins =
-      let z : b + 0 ≡ b = omega arith in
-      (rw z at (next 0 (omega arith)))
-      ∙ rw (next 1 (omega arith), next 2 (omega arith), next 3 (omega arith), next 4 (omega arith), next 5 (omega arith), next 6 (omega arith), next 7 (omega arith))
-
-  pub eight_taken : (count : ℕ) → count ≤ 8 → take count eight ≡ take count (drop b l)
-  eight_taken count h = rw begins (sym (take-append-le count eight (drop (b + 8) l) h))
+-- A step's kind and option ---------------------------------------------------------------------------------------------------------
 
 pub stored_kind : (bytes : List ℕ) (i : ℕ) → ir (get_or bytes (i * 32) 0) ≡ (stored_step bytes i).kind
 unfolding stored_step step_of
@@ -115,12 +105,3 @@ module _ (bytes : List ℕ) (n i : ℕ) (held : StepsHeld bytes n) (here : i < n
   its_n3 =
       ap length its_aggs
       ∙ length_part (at 4 + at 5) (at 6) (omega (arith, (held.formed i here).n1, (held.formed i here).n2, (held.formed i here).n3))
-
--- A list out of the bytes ----------------------------------------------------------------------------------------------------------
-
-module _ (xs : List ℕ) (e : Entries) (l : IsList xs e) where
-  pub list_length : length xs ≡ e.count
-  list_length = ap length (sym l.is) ∙ length-take-le e.count e.nodes (omega (arith, l.few, l.room))
-
-  pub list_at : (k : ℕ) → k < e.count → get_or e.nodes k 0 ≡ get_or xs k 0
-  list_at k h = sym (get_or-take e.count e.nodes k 0 h) ∙ ap (λ (x : List ℕ). get_or x k 0) l.is

@@ -32,7 +32,7 @@ module _ (a : Arena) (recs : List ℕ) (sized : length recs ≡ 2048) (same : st
   held_as l = kind_and_children (get_or a.lines.off l false) (stored_expr a.records.bytes (get_or a.lines.holds l 0))
 
   down : (l : ℕ) → l < a.records.count → get_or a.lines.holds l 0 ≤ l
-  down l h = a.lines.below l (omega (arith, a.records.based.few))
+  down = a.below
 
   falls : (l : ℕ) → l < a.records.count → Falls l (stored_expr recs l).children
   falls l h =

@@ -1,7 +1,9 @@
 -- How the code stores the edges, in two arrays. `ends` has what never changes: of edge k the step that consumes it at k and its slot at
 -- 256 + k, and of step m the number of its first in-edge at 512 + m. `edges` has, of edge k, the step that produces it at k and its
 -- mark at 256 + k, which is 1 if it is unordered.
+use Rattle.std.specs.Prelude as rust
 use Rattle.std.specs.Prelude.{ℕ, ◌+◌, ◌≤◌, ◌<◌, ◌≡◌, ◌≢◌, Bool, false, ◌||◌, List, eqb, get_or, if◌then◌else◌}
+use Rattle.std.specs.Option.{unwrap_or}
 use Rattle.std.proofs.Math.Option.{Option, none, some}
 use Rattle.plan.specs.Lists.{yes?}
 use Rattle.plan.specs.Graph.{Edge}
@@ -10,6 +12,10 @@ use Rattle.storage.specs.Stored.{table}
 -- an edge into a removed sort has the producer 255, which is no step's
 abbrev pub producer_of : ℕ → Option ℕ
 producer_of p = if eqb p 255 then none else some p
+
+-- the byte that is stored for the code's Option of a step
+abbrev pub byte_of : rust.Option ℕ → ℕ
+byte_of p = unwrap_or p 255
 
 -- is edge k unordered?
 abbrev pub mark : List ℕ → ℕ → Bool

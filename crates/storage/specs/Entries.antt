@@ -1,5 +1,5 @@
 -- A list of at most eight lines in an array of eight, the first `count` of its nodes.
-use Rattle.std.specs.Prelude.{◌≡◌, ℕ, ◌≤◌, List, length, take}
+use Rattle.std.specs.Prelude.{◌≡◌, ℕ, ◌≤◌, List, length, take, drop}
 use Rattle.storage.specs.declared.entries.Entries.{Entries}
 
 abbrev pub list_of : Entries → List ℕ
@@ -9,3 +9,7 @@ list_of e = take e.count e.nodes
 pub record Shaped (e : Entries) : Type 0 where
   pub few : e.count ≤ 8
   pub room : length e.nodes ≡ 8
+
+-- out of the eight bytes from b on
+abbrev pub entries_at : List ℕ → ℕ → ℕ → Entries
+entries_at bytes b count = record { nodes = take 8 (drop b bytes); count = count }

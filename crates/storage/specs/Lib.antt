@@ -6,3 +6,4 @@ pub mod Exprs
 pub mod Based
 pub mod Start
 pub mod Held
+pub mod Lines

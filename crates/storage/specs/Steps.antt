@@ -1,14 +1,8 @@
 -- What is read of a stored step, and what is changed.
-use Rattle.std.specs.Prelude.{◌≡◌, ℕ, ◌+◌, ◌≤◌, List, length, set, take}
+use Rattle.std.specs.Prelude.{◌≡◌, ℕ, ◌≤◌, List, length, set, take}
 use Rattle.plan.specs.Sheet.{Step, step_at}
 use Rattle.plan.specs.Visit.{with_aggs}
 use Rattle.storage.specs.declared.entries.Entries.{Entries}
-
--- a list of `count` entries, of at most eight, can be read from byte b on
-pub record RoomForList (steps : List ℕ) (b count : ℕ) : Type 0 where
-  pub room : b + 8 ≤ 1024
-  pub few : count ≤ 8
-  pub size : length steps ≡ 1024
 
 -- a step's n2 or n3 list, out of the bytes: the first `count` of the nodes
 pub record IsList (xs : List ℕ) (e : Entries) : Type 0 where

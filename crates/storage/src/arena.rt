@@ -4,7 +4,7 @@ ghost use Rattle.storage.specs.Stored.{stored_expr, held_expr, arena_of, stored_
 ghost use Rattle.storage.specs.Exprs.{Copyable, LineHeld, ExprStored};
 ghost use Rattle.storage.specs.Held.{arena_in};
 
-use crate::stored::Arena;
+use crate::stored::{Arena, Lines};
 
 // Record l over record p, which is behind it. Bytes, here and in the next two: while lines are written out their children need not fall,
 // as those of Records do.
@@ -12,36 +12,32 @@ fn copy_record(recs: &mut [u8; 2048], l: usize, p: usize)
     requires { Copyable recs.old l p }
     ensures { ExprStored recs.old p (stored_expr recs.old l) recs.new }
 {
-    let a = l * 16;
-    let b = p * 16;
-    for k in 0..16 {
-        recs[b + k] = recs[a + k];
-    }
+    recs.copy_within(l * 16..l * 16 + 16, p * 16);
 }
 
 // The record that line p holds; the option of an Implode that is switched off is 0.
-fn store_line(recs: &mut [u8; 2048], line: &[u8; 128], off: &[bool; 128], p: usize)
-    requires { LineHeld recs.old line.now p }
-    ensures { ExprStored recs.old p (held_expr recs.old line.now off.now p) recs.new }
+fn store_line(recs: &mut [u8; 2048], lines: &Lines, p: usize)
+    requires { LineHeld recs.old lines.now.holds p }
+    ensures { ExprStored recs.old p (held_expr recs.old lines.now.holds lines.now.off p) recs.new }
 {
-    let l = usize::from(line[p]);
+    let l = usize::from(lines.holds[p]);
     if l != p {
         copy_record(recs, l, p);
     }
-    if off[p] {
+    if lines.off[p] {
         recs[p * 16 + 3] = 0;
     }
 }
 
 // The first n lines, from the last on: no line holds a later line's record, so what is still to be read is as it was.
-pub fn store_lines(recs: &mut [u8; 2048], line: &[u8; 128], off: &[bool; 128], n: usize)
-    requires { LinesHeld recs.old line.now n }
-    ensures stored { stored_exprs recs.new n ≡ arena_of recs.old line.now off.now n }
+pub fn store_lines(recs: &mut [u8; 2048], lines: &Lines, n: usize)
+    requires { LinesHeld recs.old lines.now.holds n }
+    ensures stored { stored_exprs recs.new n ≡ arena_of recs.old lines.now.holds lines.now.off n }
     ensures still_formed { (i : ℕ) → i < n → ExprFormed recs.new i }
     ensures sized { length recs.new ≡ 2048 }
 {
     for p in (0..n).rev() {
-        store_line(recs, line, off, p);
+        store_line(recs, lines, p);
     }
 }
 
@@ -52,11 +48,7 @@ impl Arena {
         ensures count { self.new.records.count ≡ self.old.records.count }
     {
         let records = &mut self.records;
-        store_lines(
-            &mut records.bytes,
-            &self.lines.holds,
-            &self.lines.off,
-            records.count,
-        );
+        let lines = &mut self.lines;
+        store_lines(&mut records.bytes, lines, records.count);
     }
 }

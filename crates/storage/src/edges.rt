@@ -1,7 +1,11 @@
-// The stored edges: what is read of them, and what makes and changes them. No other file knows where they stand.
+// The stored edges: what is read of them, and what makes and changes them. No other file knows where they stand. The rows of bytes
+// stand in two arrays, so that `ends`, which no visit changes, is lent to read only: in one struct with the rest, each contract of the
+// walks would have to say that it is as it was. Rows and no array of edges: who asks all marks or all producers goes along one row. A field
+// for each row would spare the offsets here alone: no other code has one.
 ghost use Rattle.std.specs.Prelude.{◌≡◌, List, [], ◌∷◌, ◌++◌, ℕ, ◌+◌, ◌≤◌, ◌<◌, length, get_or, drop, set};
+ghost use Rattle.plan.specs.Refusals.{option_of};
 ghost use Rattle.plan.specs.Visit.{is_out_of};
-ghost use Rattle.storage.specs.Edges.{producer_of, mark, stored_edge, stored_edges, made, loosened_if, produced_if, EdgeChanged};
+ghost use Rattle.storage.specs.Edges.{byte_of, mark, stored_edge, stored_edges, made, loosened_if, produced_if, EdgeChanged};
 
 use plan::choice::pick;
 use plan::sizes::size;
@@ -14,6 +18,7 @@ pub fn consumer_of(ends: &[u8; 544], k: usize) -> u8
     ends[k]
 }
 
+// Its slot there. One function of a row's offset would have callers know where the rows stand.
 pub fn slot_of(ends: &[u8; 544], k: usize) -> u8
     requires { k < 256 }
     ensures { (edges : List ℕ) → result ≡ (stored_edge ends.now edges k).slot }
@@ -23,15 +28,21 @@ pub fn slot_of(ends: &[u8; 544], k: usize) -> u8
 
 // The functions of bytes and a place ask only that the place is there, which is less than Edges does.
 
-// The step that produces edge k, 255 for none.
-pub fn producer_of(edges: &[u8; 512], k: usize) -> u8
+// The byte of an edge that no step produces: an edge into a removed sort. Here alone it stands for none, as in `producer_of` of
+// specs/Edges, which says what the bytes are.
+const NONE: u8 = 255;
+
+// The step that produces edge k, if there is one.
+pub fn producer_of(edges: &[u8; 512], k: usize) -> Option<u8>
     requires { k < 256 }
-    ensures { (ends : List ℕ) → producer_of result ≡ (stored_edge ends edges.now k).producer }
+    ensures { (ends : List ℕ) → option_of result ≡ (stored_edge ends edges.now k).producer }
 {
-    edges[k]
+    let p = edges[k];
+    if p == NONE { None } else { Some(p) }
 }
 
-// Is it step n?
+// Is it step n? A step's number is below 32, and so no byte of none. A type of such numbers would have to be made wherever a walk
+// reads one.
 pub fn is_out_of(edges: &[u8; 512], k: usize, n: u8) -> bool
     requires { (k < 256) × (n < 32) }
     ensures { (ends : List ℕ) → result ≡ is_out_of n (stored_edge ends edges.now k) }
@@ -63,13 +74,13 @@ pub fn loosen_if(edges: &mut [u8; 512], k: usize, loosened: bool)
     edges[256 + k] = pick(loosened, 1, u);
 }
 
-// Step p produces edge k, if it is handed on.
-pub fn produce_if(edges: &mut [u8; 512], k: usize, handed_on: bool, p: u8)
+// Step p produces edge k, or none does, if it is handed on.
+pub fn produce_if(edges: &mut [u8; 512], k: usize, handed_on: bool, p: Option<u8>)
     requires { (k < 256) × (length edges.old ≡ 512) }
-    ensures { ((ends : List ℕ) → EdgeChanged (produced_if handed_on p) ends k edges.old edges.new) × (length edges.new ≡ 512) }
+    ensures { ((ends : List ℕ) → EdgeChanged (produced_if handed_on (byte_of p)) ends k edges.old edges.new) × (length edges.new ≡ 512) }
 {
     let q = edges[k];
-    edges[k] = pick(handed_on, p, q);
+    edges[k] = pick(handed_on, p.unwrap_or(NONE), q);
 }
 
 // Edge k is made, behind those before it: from a step into a slot of another. It is ordered.

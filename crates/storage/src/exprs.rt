@@ -1,5 +1,6 @@
 // What is read of a stored expression: the record that a line of the arena holds.
 ghost use Rattle.std.specs.Prelude.{◌≡◌, ◌<◌};
+ghost use Rattle.plan.specs.Kinds.{same_aexpr};
 ghost use Rattle.storage.specs.Stored.{stored_expr};
 ghost use Rattle.storage.specs.Exprs.{RecordHeld, IsHeld};
 
@@ -8,6 +9,8 @@ use crate::stored::Records;
 use plan::aexpr::AExpr;
 use plan::choice::pick;
 
+// Its option is the number of the sheet, as in the definition's Expr: what it means goes by the kind, and FunctionFlags is made of it where a
+// Function's is read.
 #[derive(Clone, Copy)]
 pub struct ExprRecord {
     pub kind: AExpr,
@@ -29,23 +32,12 @@ pub fn expr_of(recs: &[u8; 2048], l: u8, off: bool) -> ExprRecord
         scalar: recs[b + 1] == 1,
         length_preserving: recs[b + 2] == 1,
         option,
-        children: Entries {
-            nodes: [
-                recs[b + 4],
-                recs[b + 5],
-                recs[b + 6],
-                recs[b + 7],
-                recs[b + 8],
-                recs[b + 9],
-                recs[b + 10],
-                recs[b + 11],
-            ],
-            count: recs[b + 12],
-        },
+        children: Entries::read(recs, b + 4, recs[b + 12]),
     }
 }
 
 impl Records {
+    // Inlined, as is what a look calls along children (expr/src/look.rt).
     #[inline(always)]
     pub fn expr(&self, l: u8, off: bool) -> ExprRecord
         requires { l < self.now.count }
@@ -55,7 +47,16 @@ impl Records {
     }
 }
 
-// These two ask only that the record's bytes are there, which is less than Records does.
+// Bytes, as reading asks it of a line that it has still to check.
+pub fn is_kind(recs: &[u8; 2048], l: usize, kind: AExpr) -> bool
+    requires { l < 128 }
+    ensures { result ≡ same_aexpr (stored_expr recs.now l).kind kind }
+{
+    AExpr::of_number(recs[l * 16]) == kind
+}
+
+// These two ask only that the record's bytes are there, which is less than Records does. Two, each of its own byte: one function that
+// took the byte's place would be called by a number for S or L.
 pub fn is_scalar(recs: &[u8; 2048], l: u8) -> bool
     requires { l < 128 }
     ensures { result ≡ (stored_expr recs.now l).scalar }

@@ -1,19 +1,18 @@
 // What is read of a stored step: its kind and options, its first input, and its two lists of expressions.
 ghost use Rattle.std.specs.Prelude.{◌≡◌, ◌<◌, ◌≤◌, length, get_or, take, drop};
-ghost use Rattle.plan.specs.declared.ir.IR.{IR};
 ghost use Rattle.plan.specs.Kinds.{same_ir};
 ghost use Rattle.plan.specs.Sheet.{step_at};
 ghost use Rattle.storage.specs.Stored.{stored_step};
 ghost use Rattle.storage.specs.Held.{steps_in};
 ghost use Rattle.plan.specs.Visit.{options_of};
-ghost use Rattle.storage.specs.Steps.{RoomForList, IsList};
+ghost use Rattle.storage.specs.Steps.{IsList};
 
 use crate::entries::Entries;
 use crate::stored::Steps;
 use plan::ir::IR;
 use plan::rules::Options;
 
-// The four of bytes and a place ask only that the place is there, which is less than Steps does: reading calls them of lines that it has
+// The three of bytes and a place ask only that the place is there, which is less than Steps does: reading calls them of lines that it has
 // still to check.
 pub fn kind_of(steps: &[u8; 1024], i: usize) -> IR
     requires { i < 32 }
@@ -22,18 +21,11 @@ pub fn kind_of(steps: &[u8; 1024], i: usize) -> IR
     IR::of_number(steps[i * 32])
 }
 
-pub fn is_cache(steps: &[u8; 1024], i: usize) -> bool
+pub fn is_kind(steps: &[u8; 1024], i: usize, kind: IR) -> bool
     requires { i < 32 }
-    ensures { result ≡ same_ir (stored_step steps.now i).kind IR.Cache }
+    ensures { result ≡ same_ir (stored_step steps.now i).kind kind }
 {
-    kind_of(steps, i) == IR::Cache
-}
-
-pub fn is_sink(steps: &[u8; 1024], i: usize) -> bool
-    requires { i < 32 }
-    ensures { result ≡ same_ir (stored_step steps.now i).kind IR.Sink }
-{
-    kind_of(steps, i) == IR::Sink
+    kind_of(steps, i) == kind
 }
 
 // The id of a Cache.
@@ -42,26 +34,6 @@ pub fn cache_id(steps: &[u8; 1024], i: usize) -> u8
     ensures { result ≡ (stored_step steps.now i).a }
 {
     steps[i * 32 + 1]
-}
-
-// The list of at most eight that stands from byte b on.
-fn entries_from(steps: &[u8; 1024], b: usize, count: u8) -> Entries
-    requires { RoomForList steps.now b count }
-    ensures { IsList (take count (drop b steps.now)) result }
-{
-    Entries {
-        nodes: [
-            steps[b],
-            steps[b + 1],
-            steps[b + 2],
-            steps[b + 3],
-            steps[b + 4],
-            steps[b + 5],
-            steps[b + 6],
-            steps[b + 7],
-        ],
-        count,
-    }
 }
 
 impl Steps {
@@ -95,7 +67,7 @@ impl Steps {
     {
         let b = i * 32;
         let n1 = usize::from(self.bytes[b + 4]);
-        entries_from(&self.bytes, b + (7 + n1), self.bytes[b + 5])
+        Entries::read(&self.bytes, b + (7 + n1), self.bytes[b + 5])
     }
 
     // The n3 list.
@@ -106,6 +78,6 @@ impl Steps {
         let b = i * 32;
         let n1 = usize::from(self.bytes[b + 4]);
         let n2 = usize::from(self.bytes[b + 5]);
-        entries_from(&self.bytes, b + (7 + (n1 + n2)), self.bytes[b + 6])
+        Entries::read(&self.bytes, b + (7 + (n1 + n2)), self.bytes[b + 6])
     }
 }

@@ -5,6 +5,11 @@ ghost use Rattle.storage.specs.Stored.{StepsHeld};
 ghost use Rattle.storage.specs.Based.{Based};
 ghost use Rattle.storage.specs.Start.{OwnLines, NoneOff};
 
+// The bytes are the numbers of lines as a sheet has them, and no array of structs: reading stores a line's numbers by one copy, writing prints
+// them as the slice that they are, and both are lent these arrays. None is a Model seen as its list: what is read of one place is asked of
+// the bytes. So that the number of records, steps or edges stays is a clause where they are lent to be changed; that it follows
+// from the equation of the lists is a law that each caller would have to cite.
+
 // The base records, at a stride of 16: a line of the arena holds one of them.
 #[derive(Drop)]
 pub struct Records {
@@ -14,12 +19,13 @@ pub struct Records {
     pub ghost sized: { length bytes ≡ 2048 },
 }
 
-// The lines of the arena, as looks change them: the record that each holds now, and whether its Implode was switched off.
+// The lines of the arena, as looks change them: the record that each holds now, and whether its Implode was switched off. Two arrays and no
+// array of pairs: what looks ask and promise of the records that lines hold (Kept, Readable, is_replaced_line) is said of that list
+// alone, and would else be said of its image.
 #[derive(Drop)]
 pub struct Lines {
     pub holds: [u8; 128],
     pub off: [bool; 128],
-    pub ghost below: { (q : ℕ) → q < 128 → get_or holds q 0 ≤ q },
     pub ghost sized: { length holds ≡ 128 },
     pub ghost off_sized: { length off ≡ 128 },
 }
@@ -37,10 +43,12 @@ impl Lines {
     }
 }
 
+// A line of one of the records holds that record or one before it; what the other lines hold is never read.
 #[derive(Drop)]
 pub struct Arena {
     pub records: Records,
     pub lines: Lines,
+    pub ghost below: { (q : ℕ) → q < records.count → get_or lines.holds q 0 ≤ q },
 }
 
 // The numbers of each P line, as they stand on it, at a stride of 32.

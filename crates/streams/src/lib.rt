@@ -1,4 +1,4 @@
-// What the programs read and write: a whole input, or as much of it as the buffer holds; the front of a buffer.
+// What the programs read and write: a whole input, or as much of it as the buffer holds; some bytes.
 #![tactic(auto)]
 
 ghost use Rattle.std.specs.Prelude.{◌≡◌, true, ◌≤◌, length, IfSome};
@@ -52,12 +52,13 @@ pub fn has_argument(rt: &impl Env, i: usize) -> bool {
     !matches!(rt.arg(i, &mut first), Err(FillError::NotPresent))
 }
 
-// Puts the program's argument i at the start of the buffer, and returns its length: 0 where there is no such argument, or
-// it is longer than the buffer. No Option: it cannot fail, and the empty path that is then read names no file, as is told.
-pub fn argument(rt: &impl Env, i: usize, buf: &mut [u8]) -> usize
-    ensures { IsPrefixLen result buf.new }
+// The program's argument i, put at the start of the buffer: no bytes where there is no such argument, or it is longer than the buffer. No
+// Option: it cannot fail, and the empty path that is then read names no file, as is told.
+pub fn argument<'a>(rt: &impl Env, i: usize, buf: &'a mut [u8]) -> &'a [u8]
+    ensures { length result.now ≤ length buf.old }
 {
-    rt.arg(i, buf).unwrap_or(0)
+    let n = rt.arg(i, buf).unwrap_or(0);
+    &buf[..n]
 }
 
 // Reads until the buffer is full, the input ends or a read fails: how many bytes came, and whether each read went well. A read
@@ -76,23 +77,24 @@ pub fn fill<R: Read>(from: &mut R, buf: &mut [u8]) -> (usize, io::Result<()>)
     (done, Ok(()))
 }
 
-// Reads until the input ends or the buffer is full, whichever comes first; what cannot be read is told on standard error.
-pub fn read_input<R: Read>(
+// Reads into the buffer until the input ends or it is full, whichever comes first: what was read. What cannot be read is told on standard
+// error.
+pub fn read_input<'a, R: Read>(
     rt: &impl Eprint,
     name: &str,
     from: &mut R,
-    buf: &mut [u8],
-) -> Option<usize>
-    ensures { IfSome result (λ n. IsPrefixLen n buf.new) }
+    buf: &'a mut [u8],
+) -> Option<&'a [u8]>
+    ensures { IfSome result (λ bytes. length bytes.now ≤ length buf.old) }
 {
     let (n, ended) = fill(from, buf);
     ok_or_tell(rt, name, ended)?;
-    Some(n)
+    Some(&buf[..n])
 }
 
 // Reads the file at a path; what cannot be read is told on standard error. A path that is no text names no file.
-pub fn read_path<R: Files + Eprint>(rt: &R, path: &[u8], buf: &mut [u8]) -> Option<usize>
-    ensures { IfSome result (λ n. IsPrefixLen n buf.new) }
+pub fn read_path<'a, R: Files + Eprint>(rt: &R, path: &[u8], buf: &'a mut [u8]) -> Option<&'a [u8]>
+    ensures { IfSome result (λ bytes. length bytes.now ≤ length buf.old) }
 {
     let Ok(name) = str::from_utf8(path) else {
         let error = io::Error::from(ErrorKind::InvalidFilename);
@@ -103,11 +105,10 @@ pub fn read_path<R: Files + Eprint>(rt: &R, path: &[u8], buf: &mut [u8]) -> Opti
     read_input(rt, name, &mut file, buf)
 }
 
-// Did the first n bytes all go out? Of no bytes that holds; of others the system says it, and no contract can. What cannot
-// be written is told on standard error.
-pub fn write_front(rt: &(impl Print + Eprint), buf: &[u8], n: usize) -> bool
-    requires { n ≤ length buf.now }
-    ensures { n ≡ 0 → result ≡ true }
+// Did the bytes all go out? Of no bytes that holds; of others the system says it, and no contract can. What cannot be written
+// is told on standard error. A yes or no: no value comes of it that an Option could have.
+pub fn write_out(rt: &(impl Print + Eprint), bytes: &[u8]) -> bool
+    ensures { length bytes.now ≡ 0 → result ≡ true }
 {
-    n == 0 || ok_or_tell(rt, "standard output", rt.write_all(&buf[..n])).is_some()
+    bytes.is_empty() || ok_or_tell(rt, "standard output", rt.write_all(bytes)).is_some()
 }

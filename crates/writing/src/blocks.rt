@@ -10,6 +10,7 @@ ghost use Rattle.writing.specs.Wrote.{Wrote};
 use crate::each::put_each;
 use crate::lines::{put_edge, put_line};
 use storage::edges::{consumer_of, is_unordered, slot_of};
+use storage::lines::{expr_numbers, step_numbers};
 use storage::stored::{Edges, Steps};
 
 // The E line that is stored as number i.
@@ -19,11 +20,7 @@ pub fn put_expr(out: &mut [u8], exprs: &[u8; 2048], i: usize) -> usize
     requires in_bounds { 50 ≤ length out.old }
     ensures { Wrote (expr_line (stored_expr exprs.now i)) out.old out.new result × (result ≤ 50) }
 {
-    let b = i * 16;
-    let count = exprs[b + 12] as usize;
-    let e = b + (4 + count);
-    let bytes = &exprs[..];
-    put_line(out, b'E', &bytes[b..e])
+    put_line(out, b'E', expr_numbers(exprs, i))
 }
 
 // Bytes and a count, as it asks less of them than Records does: that each expression is formed.
@@ -43,13 +40,7 @@ pub fn put_step(out: &mut [u8], steps: &[u8; 1024], i: usize) -> usize
     requires in_bounds { 126 ≤ length out.old }
     ensures { Wrote (step_line (stored_step steps.now i)) out.old out.new result × (result ≤ 126) }
 {
-    let b = i * 32;
-    let n1 = steps[b + 4] as usize;
-    let n2 = steps[b + 5] as usize;
-    let n3 = steps[b + 6] as usize;
-    let e = b + (7 + n1 + n2 + n3);
-    let bytes = &steps[..];
-    put_line(out, b'P', &bytes[b..e])
+    put_line(out, b'P', step_numbers(steps, i))
 }
 
 pub fn put_steps(out: &mut [u8], steps: &Steps) -> usize

@@ -46,7 +46,7 @@ pub fn put_edge(out: &mut [u8], consumer: u8, slot: u8, unordered: bool) -> usiz
     put_line(out, b'G', &ns)
 }
 
-// The T line.
+// The T line, of three numbers as the text `line 84` has them: with Tallies the contract would name the same three.
 pub fn put_tally(out: &mut [u8], removed: u64, visits: u64, looks: u64) -> usize
     requires { 65 ≤ length out.old }
     ensures { Wrote (line 84 (removed ∷ visits ∷ looks ∷ [])) out.old out.new result × (result ≤ 65) }

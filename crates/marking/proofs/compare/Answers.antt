@@ -1,21 +1,16 @@
-use native.Mathlib.Omega.{arith}
-use lib.ListN.{length-take}
-use Rattle.marking.proofs.Comparison.{too_short_paper, both_equal, one_differs}
+use mathlib.Core.Path.{sym, ◌∙◌}
+use Rattle.marking.proofs.Comparison.{both_equal, steps_differ, edges_differ}
 use Rattle.marking.proofs.compare.Goals as goal
 
-pub returns-then-paper-n : goal.returns-then-paper-n
-returns-then-paper-n c =
-    too_short_paper c.args.paper.now c.args.steps.now c.args.edges.now c.if-paper-n.true
+pub returns-in-Some : goal.returns-in-Some
+returns-in-Some c =
+    let (front, rest, long) = c.in-Some.ensures.cases in
+    both_equal c.args.paper.now c.args.steps.now c.args.edges.now front (rw rest at (sym c.eq.ensures ∙ c.if-eq.true))
 
-pub slice_bounds-same-end : goal.slice_bounds-same-end
-slice_bounds-same-end c = simp length-take (omega arith)
+pub returns-in_default : goal.returns-in_default
+returns-in_default c =
+    let (front, rest, long) = c.in-Some.ensures.cases in
+    edges_differ c.args.paper.now c.args.steps.now c.args.edges.now (rw rest at (sym c.eq.ensures ∙ c.if-eq.false))
 
-pub returns-then-steps_right-edges_right : goal.returns-then-steps_right-edges_right
-returns-then-steps_right-edges_right c =
-    both_equal c.args.paper.now c.args.steps.now c.args.edges.now _ _ c.same-steps_right.ensures.0 c.same-edges_right.ensures.0
-    c.if-steps_right-edges_right.true
-
-pub returns : goal.returns
-returns c =
-    one_differs c.args.paper.now c.args.steps.now c.args.edges.now _ _ c.same-steps_right.ensures.1 c.same-edges_right.ensures.1
-    c.if-steps_right-edges_right.false
+pub returns-in_default-2 : goal.returns-in_default-2
+returns-in_default-2 c = steps_differ c.args.paper.now c.args.steps.now c.args.edges.now (rw c.in_default.is at c.strip_prefix.ensures.cases)

@@ -14,7 +14,7 @@ pub simplify_and_fetch_orderings-requires : goal.simplify_and_fetch_orderings-re
 simplify_and_fetch_orderings-requires c =
     let b = c.build_ir_traversal_graph.ensures in
     let s = c.args.run.now.steps in
-    rw c.as_slice.ensures
+    rw c.as_slice.ensures.value
     (record {
       formed = c.requires.formed;
       few = b.few_places;

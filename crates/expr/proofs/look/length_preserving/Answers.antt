@@ -17,4 +17,4 @@ all-requires-clause-callable c =
 pub returns : goal.returns
 returns c =
     rw (← all_is)
-    (all_from_yields_List (preserves c.args.records.now.bytes c.args.lines.now.holds) _ _ _ c.all.ensures.ran (YieldsList-from_slice (list_of c.args.children) cc) (λ x b q k. search (rules, tests)))
+    (all_from_yields_List (preserves c.args.arena.now.records.bytes c.args.arena.now.lines.holds) _ _ _ c.all.ensures.ran (YieldsList-from_slice (list_of c.args.children) cc) (λ x b q k. search (rules, tests)))

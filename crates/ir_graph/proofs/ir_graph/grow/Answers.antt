@@ -10,19 +10,19 @@ pub overflow_cast-edges : goal.overflow_cast-edges
 overflow_cast-edges c = let t = turn_at c.args.steps.now c.requires.plan c.loop-i.invariant (omega arith) in omega (arith, t.edges)
 
 pub store_first_into-requires : goal.store_first_into-requires
-store_first_into-requires c = let t = turn_at c.args.steps.now c.requires.plan c.loop-i.invariant (omega arith) in rw c.as_slice-list.ensures t.line
+store_first_into-requires c = let t = turn_at c.args.steps.now c.requires.plan c.loop-i.invariant (omega arith) in rw c.as_slice-list.ensures.value t.line
 
 pub follow-requires : goal.follow-requires
 follow-requires c =
     let t = turn_at c.args.steps.now c.requires.plan c.loop-i.invariant (omega arith) in
-    rw (c.from.ensures, c.as_slice-list.ensures) (record { i_bound = t.line; step_formed = t.formed; hit_left = t.hit; room = omega (arith, t.room) })
+    rw (c.from.ensures, c.as_slice-list.ensures.value) (record { i_bound = t.line; step_formed = t.formed; hit_left = t.hit; room = omega (arith, t.room) })
 
 pub link-requires : goal.link-requires
 link-requires c =
     let t = turn_at c.args.steps.now c.requires.plan c.loop-i.invariant (omega arith) in
-    let q = rw (c.from.ensures, c.as_slice-list.ensures) at c.follow.ensures.followed in
-    let u = rw (c.from.ensures, c.as_slice-list.ensures) at c.follow.ensures.hit_used in
-    rw (part_from, c.as_slice.ensures, c.as_slice-list.ensures)
+    let q = rw (c.from.ensures, c.as_slice-list.ensures.value) at c.follow.ensures.followed in
+    let u = rw (c.from.ensures, c.as_slice-list.ensures.value) at c.follow.ensures.hit_used in
+    rw (part_from, c.as_slice.ensures.value, c.as_slice-list.ensures.value)
     (record {
       few_inputs = omega (arith, few_pushed c.args.steps.now c.requires.plan c.loop-i.invariant (omega arith) q u, t.few);
       room = omega (arith, few_pushed c.args.steps.now c.requires.plan c.loop-i.invariant (omega arith) q u, t.edges);
@@ -35,11 +35,11 @@ loop-i-smaller c = omega (arith, places_left c.args.steps.now c.requires.plan c.
 pub loop-i-preserved : goal.loop-i-preserved
 loop-i-preserved c =
     placing_next c.args.steps.now c.requires.plan c.loop-i.invariant (omega arith)
-    (rw (c.from.ensures, c.as_slice-list.ensures) at c.follow.ensures.followed)
-    (rw (c.from.ensures, c.as_slice-list.ensures) at c.follow.ensures.hit_used)
+    (rw (c.from.ensures, c.as_slice-list.ensures.value) at c.follow.ensures.followed)
+    (rw (c.from.ensures, c.as_slice-list.ensures.value) at c.follow.ensures.hit_used)
     c.store_first_into.ensures.by_index
-    (rw c.as_slice-list.ensures at c.store_first_into.ensures.ends_after)
-    (rw (part_from, c.as_slice.ensures, c.as_slice-list.ensures) at c.link.ensures)
+    (rw c.as_slice-list.ensures.value at c.store_first_into.ensures.ends_after)
+    (rw (part_from, c.as_slice.ensures.value, c.as_slice-list.ensures.value) at c.link.ensures)
 
 pub returns : goal.returns
 returns c = built c.args.steps.now c.requires.plan c.loop-i.invariant (omega arith)

@@ -1,21 +1,20 @@
-use mathlib.Core.Path.{◌≡◌, sym, ◌∙◌}
-use mathlib.Core.List.{[]}
-use Rattle.storage.specs.Edges.{stored_edge}
-use Rattle.node_rules.proofs.InEdges.{through_next, ends_here, ends_last}
-use native.Mathlib.Omega.{arith}
+use Rattle.std.proofs.Common.{rules, arith, ◌≤◌, true, false}
+use mathlib.Core.Path.{◌∙◌}
+use Rattle.std.proofs.lemmas.Iterator.{first_from_Range}
+use Rattle.node_rules.proofs.InEdges.{Other, run_within, run_found}
 use Rattle.node_rules.proofs.around.in_edges_of.Goals as goal
 
-pub returns-then-consumer_of-n : goal.returns-then-consumer_of-n
-unfolding stored_edge
-returns-then-consumer_of-n c =
-    rw c.loop-to.invariant.0 (ends_here c.args.ends.now c.args.len c.args.n c.requires.1 c.loop-to.to c.loop-to.invariant.1 (rw (c.consumer_of.ensures []) at c.if-consumer_of-n.true))
+pub invariant_of-result : goal.invariant_of-result
+invariant_of-result c =
+    let other = Other c.args.ends.now c.args.n in
+    let start = c.from-from.ensures ∙ c.first_into.ensures in
+    let in_row : c.from-from.result ≤ c.args.len = rw start c.requires.1.few in
+    let found = first_from_Range _ _ _ _ (other true) (other false) c.find.ensures.ran (λ x q called edges. search rules) (λ x q called. (search rules, λ edges. search rules)) in
+    let within = run_within c.args.ends.now c.from-from.result c.args.len c.args.n c.find.result in_row found in
+    record { small = c.requires.0.small; order = omega (arith, c.unwrap_or-to.ensures, in_row, within.0); few = omega (arith, c.unwrap_or-to.ensures, within.1, c.requires.0.few) }
 
-pub loop-to-preserved : goal.loop-to-preserved
-unfolding stored_edge
-loop-to-preserved c =
-    (c.loop-to.invariant.0, through_next c.args.ends.now c.args.len c.args.n c.requires.1 c.loop-to.to c.loop-to-test.true (sym (c.consumer_of.ensures []) ∙ c.if-consumer_of-n.false) c.loop-to.invariant.1)
-
-pub returns : goal.returns
-returns c =
-    let end : c.loop-to.to ≡ c.args.len = omega arith in
-    rw c.loop-to.invariant.0 (ends_last c.args.ends.now c.args.len c.args.n c.requires.1 c.args.len (rw end at c.loop-to.invariant.1) (omega arith))
+pub returns-clause-its_edges : goal.returns-clause-its_edges
+returns-clause-its_edges c =
+    let other = Other c.args.ends.now c.args.n in
+    run_found c.args.ends.now c.args.len _ c.requires.1 c.find.result (c.from-from.ensures ∙ c.first_into.ensures) c.unwrap_or-to.ensures
+    (first_from_Range _ _ _ _ (other true) (other false) c.find.ensures.ran (λ x q called edges. search rules) (λ x q called. (search rules, λ edges. search rules)))

@@ -9,5 +9,5 @@ use Rattle.node_rules.proofs.loosen.loosen_edges.Goals as goal
 pub returns-clause-edges_after : goal.returns-clause-edges_after
 returns-clause-edges_after c =
     c.loosen_out.ensures.edges_after c.args.ends.now
-    ∙ ap (map (loosened c.args.n (outs_of c.args.l.out))) (c.loosen.ensures.edges_after c.args.n c.requires.in_run)
-    ∙ both_loosened c.args.n c.args.l (edges_in c.args.ends.now c.args.edges.now)
+    ∙ ap (map (loosened c.args.d.of (outs_of c.args.l.out))) (c.loosen.ensures.edges_after c.requires.in_run)
+    ∙ both_loosened c.args.d.of c.args.l (edges_in c.args.ends.now c.args.edges.now)

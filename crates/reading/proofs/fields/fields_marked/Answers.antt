@@ -10,6 +10,5 @@ use Rattle.reading.proofs.fields.fields_marked.Goals as goal
 
 pub returns : goal.returns
 returns c =
-    λ names k.
-    all_from_yields_List (λ i. field_marked names (i, stored_expr c.args.exprs.bytes.now i)) _ _ _ c.all.ensures.ran (YieldsList-from_range 0 c.args.exprs.count c.args.exprs.count (cc) (omega arith)) (λ x b q z. search (rules, tests))
-    ∙ exprs_all (field_marked names) _ _
+    all_from_yields_List (λ i. field_marked _ (i, stored_expr c.args.exprs.bytes.now i)) _ _ _ c.all.ensures.ran (YieldsList-from_range 0 c.args.exprs.count c.args.exprs.count (cc) (omega arith)) (λ x b q z. search (rules, tests))
+    ∙ exprs_all (field_marked _) _ _

@@ -1,24 +1,18 @@
-use Rattle.std.proofs.Common.{rules, tests}
+use mathlib.Core.Path.{sym}
+use Rattle.std.proofs.Common.{rules}
 use Rattle.std.proofs.lemmas.Result.{err_from_is_err_and}
-use Rattle.reading.proofs.Whole.{begin, within, turn, refuses, all_read}
+use Rattle.reading.proofs.Whole.{none_sound, from_none, all_taken}
 use Rattle.reading.proofs.lines.read_lines.Goals as goal
 
-pub loop-rest-init : goal.loop-rest-init
-loop-rest-init c = begin _ _ _
+pub invariant_of-taken : goal.invariant_of-taken
+invariant_of-taken c = record { sound = none_sound _ _ }
 
-pub returns-in_err-line : goal.returns-in_err-line
-returns-in_err-line c =
+pub returns-in_err-read_lines : goal.returns-in_err-read_lines
+returns-in_err-read_lines c =
     let p = err_from_is_err_and c.from_residual.result c.from_residual.ensures.1 in
-    rw (p.1, p.2) (refuses _ _ _ _ _ _ c.loop-rest.invariant (search (rules, tests)) c.in_err-line.ensures)
-
-pub slice_bounds-rest-count : goal.slice_bounds-rest-count
-slice_bounds-rest-count c = within _ _ _ _ _ _ _ _ c.in_ok-line.ensures
-
-pub slice_bounds-rest-start : goal.slice_bounds-rest-start
-slice_bounds-rest-start c = within _ _ _ _ _ _ _ _ c.in_ok-line.ensures
-
-pub loop-rest-preserved : goal.loop-rest-preserved
-loop-rest-preserved c = turn _ _ _ _ _ _ _ _ c.in_ok-line.ensures _ c.loop-rest.invariant
+    rw (p.1, p.2) (from_none _ _ _ c.in_err-read_lines.ensures.lines)
 
 pub returns : goal.returns
-returns c = all_read _ _ _ _ _ c.loop-rest.invariant (search (rules, tests))
+returns c =
+    let (e, f) = c.read_lines.ensures.same in
+    all_taken _ _ _ c.in_ok-read_lines.ensures.lines c.read_lines.new.self.sound (search (rules, sym e)) (search (rules, sym f))

@@ -1,29 +1,25 @@
+use mathlib.Core.Path.{◌∙◌}
+use Rattle.std.proofs.Common.{rules, tests}
+use Rattle.std.specs.Prelude.{⊤}
 use native.Mathlib.Omega.{arith}
-use mathlib.Core.Path.{refl}
-use Rattle.std.proofs.lemmas.Result.{err_from_is_err_and}
+use Rattle.std.proofs.lemmas.Iterator.{first_from_Range}
 use Rattle.storage.specs.Stored.{stored_step}
-use Rattle.reading.specs.Uses.{step_fault_in}
-use Rattle.reading.proofs.Names.{step_fault_is, some_number}
-use Rattle.reading.proofs.Scans.{fault_found, fault_none, faults_none}
-use Rattle.reading.proofs.Refers.{step_faults_first}
+use Rattle.reading.specs.Uses.{step_fault_by}
+use Rattle.reading.proofs.Names.{Right, Wrong, first_wrong, wrong_there, step_right, step_wrong}
+use Rattle.reading.proofs.Refers.{of_steps}
 use Rattle.reading.proofs.uses.first_step_fault.Goals as goal
 
-pub loop-i-init : goal.loop-i-init
-loop-i-init c = λ names k. step_faults_first (step_fault_in names) _ _
-
-pub returns-in_err-step_fault : goal.returns-in_err-step_fault
-returns-in_err-step_fault c =
-    λ names k.
-    let p = err_from_is_err_and c.from_residual.result c.from_residual.ensures.1 in
-    rw (p.1, p.2)
-    (fault_found (step_fault_in names) _ _ _ c.loop-i-test.true
-    (step_fault_is _ names k (stored_step c.args.steps.bytes.now c.loop-i.i) c.loop-i.i (omega arith) c.kind_of.ensures c.in_err-step_fault.ensures) (some_number _) (c.loop-i.invariant names k))
-
-pub loop-i-preserved : goal.loop-i-preserved
-loop-i-preserved c =
-    λ names k.
-    fault_none (step_fault_in names) _ _ _ c.loop-i-test.true
-    (step_fault_is _ names k (stored_step c.args.steps.bytes.now c.loop-i.i) c.loop-i.i (omega arith) c.kind_of.ensures c.in_ok-step_fault.ensures) refl (c.loop-i.invariant names k)
+pub refuse_first-requires : goal.refuse_first-requires
+refuse_first-requires c =
+    wrong_there c.args.steps.count (let h = c.args.steps.held.few in omega arith) _ (first_from_Range _ _ _ _ (λ _. ⊤) (λ _. ⊤) c.find-wrong.ensures.ran (λ x q k. tt) (λ x q k. (search rules, tt)))
 
 pub returns : goal.returns
-returns c = λ names k. faults_none (step_fault_in names) _ _ _ (omega arith) (c.loop-i.invariant names k)
+returns c =
+    let m = c.args.namings.now in
+    let line = stored_step c.args.steps.bytes.now in
+    c.refuse_first.ensures
+    ∙ of_steps (step_fault_by m) c.args.steps.bytes.now c.args.steps.count
+    (first_wrong (step_fault_by m) line c.args.steps.count m _
+    (first_from_Range _ _ _ _ (Wrong (step_fault_by m) line c.args.steps.count m) (Right (step_fault_by m) line c.args.steps.count m) c.find-wrong.ensures.ran
+    (λ x q k. step_wrong m x (line x) (search (rules, tests)))
+    (λ x q k. (search rules, step_right m x (line x) (search (rules, tests))))))

@@ -2,14 +2,13 @@ use mathlib.Core.Path.{refl, ap, ◌∙◌}
 use Prim.Native.Nat.{ℕ, ◌<◌}
 use native.Mathlib.Omega.{arith}
 use mathlib.Core.List.{List}
-use lib.ListN.{length}
+use lib.ListN.{length, get_or}
 use Rattle.plan.specs.Sheet.{Expr, Step, step_at}
 use Rattle.plan.specs.Visit.{implode}
 use Rattle.storage.proofs.Laws.{length_steps, length_arena}
 use Rattle.storage.specs.Steps.{with_agg}
 use Rattle.storage.specs.Held.{arena_in, steps_in}
 use Rattle.simplify_ordering.proofs.ImplodesLaws.{imploding_none, imploding_more, all_done, same_length, entry_is, room_for_one}
-use Rattle.storage.proofs.StepLaws.{list_length, list_at}
 use Rattle.plan.proofs.Counts.{mem_at}
 use Rattle.simplify_ordering.proofs.implode.append_implodes.Goals as goal
 
@@ -24,9 +23,10 @@ implode_agg-requires c =
     let a = c.args.arena.now in
     let a' = c.loop-k.arena in
     let qs : List ℕ = (step_at (steps_in s) c.args.i).aggs in
+    let items = c.as_slice-q-items.ensures ∙ c.aggs-aggs.ensures.is in
     let here : c.args.i < length (steps_in s) = omega (arith, c.requires.step, length_steps s.bytes s.count) in
-    let more : c.loop-k.k < length qs = omega (arith, c.from-k-end.ensures, list_length qs c.aggs-aggs.result c.aggs-aggs.ensures) in
-    let at = list_at qs c.aggs-aggs.result c.aggs-aggs.ensures c.loop-k.k (omega (arith, c.from-k-end.ensures)) in
+    let more : c.loop-k.k < length qs = omega (arith, ap length items) in
+    let at = ap (λ (l : List ℕ). get_or l c.loop-k.k 0) items in
     let so_far = c.loop-k.invariant.1 in
     record {
       step = omega (arith, c.loop-k.invariant.0, c.requires.step);
@@ -40,9 +40,10 @@ pub loop-k-preserved : goal.loop-k-preserved
 loop-k-preserved c =
     let s = c.args.steps.now in
     let qs : List ℕ = (step_at (steps_in s) c.args.i).aggs in
+    let items = c.as_slice-q-items.ensures ∙ c.aggs-aggs.ensures.is in
     let here : c.args.i < length (steps_in s) = omega (arith, c.requires.step, length_steps s.bytes s.count) in
-    let more : c.loop-k.k < length qs = omega (arith, c.from-k-end.ensures, list_length qs c.aggs-aggs.result c.aggs-aggs.ensures) in
-    let at = list_at qs c.aggs-aggs.result c.aggs-aggs.ensures c.loop-k.k (omega (arith, c.from-k-end.ensures)) in
+    let more : c.loop-k.k < length qs = omega (arith, ap length items) in
+    let at = ap (λ (l : List ℕ). get_or l c.loop-k.k 0) items in
     let es' : List Expr = arena_in c.loop-k.arena in
     let ps' : List Step = steps_in c.loop-k.steps in (
       c.implode_agg.ensures.count ∙ c.loop-k.invariant.0,
@@ -55,6 +56,7 @@ pub returns : goal.returns
 returns c =
     let s = c.args.steps.now in
     let qs : List ℕ = (step_at (steps_in s) c.args.i).aggs in
+    let items = c.as_slice-q-items.ensures ∙ c.aggs-aggs.ensures.is in
     let here : c.args.i < length (steps_in s) = omega (arith, c.requires.step, length_steps s.bytes s.count) in
-    let both = all_done c.args.i qs _ _ refl here c.loop-k.k _ _ c.loop-k.invariant.1 (omega (arith, c.from-k-end.ensures, list_length qs c.aggs-aggs.result c.aggs-aggs.ensures)) in
+    let both = all_done c.args.i qs _ _ refl here c.loop-k.k _ _ c.loop-k.invariant.1 (omega (arith, ap length items)) in
     record { arena = both.0; count = c.loop-k.invariant.0; steps = both.1 }

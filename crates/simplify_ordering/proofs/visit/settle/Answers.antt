@@ -20,7 +20,7 @@ looks_of-o-requires-clause-earlier c =
 
 pub looks_of-o-requires-clause-listed : goal.looks_of-o-requires-clause-listed
 looks_of-o-requires-clause-listed c =
-    rw c.from-i.ensures (listed_of c.args.v.node (run_of c.args.run.now c.args.ends.now [] []) c.args.v.around c.requires.finds.around_is c.requires.asks.listed)
+    rw c.from-i.ensures (listed_of c.args.v.ins.of (run_of c.args.run.now c.args.ends.now [] []) c.args.v.around c.requires.finds.around_is c.requires.asks.listed)
 
 -- the looks, as the definition has them
 pub returns-in_err-settle_by_rule : goal.returns-in_err-settle_by_rule
@@ -30,7 +30,7 @@ returns-in_err-settle_by_rule c =
     let ps = steps_in r.steps in
     let ds = edges_in c.args.ends.now r.edges in
     let f = c.requires.finds in
-    let here : c.args.v.node < length ps = omega (arith, f.there, length_steps r.steps.bytes r.steps.count) in
+    let here : c.args.v.ins.of < length ps = omega (arith, f.there, length_steps r.steps.bytes r.steps.count) in
     let g = rw (c.from-i.ensures, f.around_is) at c.looks_of-o.ensures.looked in
     let e = c.in_err-settle_by_rule.field-0.0 in
     let k = c.in_err-settle_by_rule.ensures in
@@ -48,7 +48,7 @@ returns-in_err-settle_by_rule c =
 pub count_visit-requires : goal.count_visit-requires
 count_visit-requires c =
     let r = c.args.run.now in
-    visit_fits (step_at (steps_in r.steps) c.args.v.node) c.args.v.around (arena_in r.arena) r.tally _ (rw c.from-i.ensures at c.looks_of-o.ensures.looked.tally_is) c.requires.asks.visits
+    visit_fits (step_at (steps_in r.steps) c.args.v.ins.of) c.args.v.around (arena_in r.arena) r.tally _ (rw c.from-i.ensures at c.looks_of-o.ensures.looked.tally_is) c.requires.asks.visits
 
 pub returns : goal.returns
 returns c =
@@ -57,7 +57,7 @@ returns c =
     let ps = steps_in r.steps in
     let ds = edges_in c.args.ends.now r.edges in
     let f = c.requires.finds in
-    let here : c.args.v.node < length ps = omega (arith, f.there, length_steps r.steps.bytes r.steps.count) in
+    let here : c.args.v.ins.of < length ps = omega (arith, f.there, length_steps r.steps.bytes r.steps.count) in
     let g = rw (c.from-i.ensures, f.around_is) at c.looks_of-o.ensures.looked in
     let k = c.in_ok-settle_by_rule.ensures in
     record {

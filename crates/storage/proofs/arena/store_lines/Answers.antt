@@ -3,7 +3,7 @@ use Rattle.storage.proofs.ArenaLaws.{no_lines, line_held, line_more, all_lines}
 use Rattle.storage.proofs.arena.store_lines.Goals as goal
 
 pub loop-p-init : goal.loop-p-init
-loop-p-init c = no_lines _ _ c.args.off.now _ c.requires
+loop-p-init c = no_lines _ _ c.args.lines.now.off _ c.requires
 
 pub store_line-requires : goal.store_line-requires
 store_line-requires c = line_held _ _ _ _ c.requires c.loop-p.p _ (omega arith) c.loop-p.recs c.loop-p.invariant

@@ -3,4 +3,4 @@ use Rattle.expr.proofs.Bits.{answer_at}
 use Rattle.expr.proofs.eos.Eos.answer.Goals as goal
 
 pub returns : goal.returns
-returns c = c.orders.ensures ∙ sym (answer_at c.args.self)
+returns c = c.from.ensures ∙ sym (answer_at c.args.self)

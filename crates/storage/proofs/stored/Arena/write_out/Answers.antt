@@ -1,4 +1,3 @@
-use native.Mathlib.Omega.{arith}
 use Rattle.storage.proofs.Written.{written_based}
 use Rattle.storage.proofs.stored.Arena.write_out.Goals as goal
 
@@ -9,7 +8,7 @@ store_lines-requires c =
       few = a.records.based.few;
       records = a.records.sized;
       formed = a.records.based.formed;
-      below = λ p h. a.lines.below p (omega (arith, a.records.based.few, h));
+      below = a.below;
     }
 
 pub invariant_of-records : goal.invariant_of-records

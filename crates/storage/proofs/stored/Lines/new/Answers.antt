@@ -1,14 +1,9 @@
-use native.Mathlib.Omega.{arith}
 use Rattle.std.proofs.Common.{rules}
-use Rattle.storage.specs.Start.{OwnLines}
 use Rattle.storage.proofs.Starts.{none_off}
 use Rattle.storage.proofs.stored.Lines.new.Goals as goal
 
 pub invariant_of-result : goal.invariant_of-result
-invariant_of-result c =
-    let items = c.from_fn.ensures.items in
-    let own : OwnLines c.from_fn.result = record { size = items.long; own = λ q h. let (before, after, called) = items.at q 0 h in search rules } in
-    record { below = λ q h. omega (arith, own.own q h); sized = own.size; off_sized = none_off.size }
+invariant_of-result c = record { sized = c.from_fn.ensures.items.long; off_sized = none_off.size }
 
 pub returns-clause-own : goal.returns-clause-own
 returns-clause-own c =
