@@ -1,5 +1,5 @@
 // The form of a case: the lengths of three parts in two bytes each, the high one first, and then the parts.
-ghost use Rattle.std.specs.Prelude.{◌<◌};
+ghost use Rattle.std.specs.Prelude.{◌+◌, ◌<◌, ◌≤◌, length, IfOk};
 
 use std::io::Read;
 use streams::fill;
@@ -27,7 +27,9 @@ pub(crate) fn two(high: u8, low: u8) -> usize
 }
 
 // Reads the next case to the front of the buffer. Where a read fails, the file ends.
-pub(crate) fn read_case<'a, R: Read>(file: &mut R, buf: &'a mut [u8]) -> Result<Case<'a>, NoCase> {
+pub(crate) fn read_case<'a, R: Read>(file: &mut R, buf: &'a mut [u8]) -> Result<Case<'a>, NoCase>
+    ensures { IfOk result (λ c. length c.sheet.now + length c.asked.now + length c.told.now ≤ length buf.old) }
+{
     let mut head = [0; 6];
     let (came, _) = fill(file, &mut head);
     if came == 0 {

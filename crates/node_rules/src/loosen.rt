@@ -1,5 +1,5 @@
 // The edges that a rule loosens: each is set to Edge::Unordered. Here and in unlink.rt each change of several edges is a loop of three
-// lines: a function that takes the change as a closure would need a contract over its calls that is longer than the four loops.
+// lines or four: a function that takes the change as a closure would need a contract over its calls that is longer than the four loops.
 ghost use Rattle.std.specs.Prelude.{◌≡◌, List, map, ℕ, ◌<◌, eqb, if◌then◌else◌};
 ghost use Rattle.plan.specs.Visit.{loosened};
 ghost use Rattle.storage.specs.Held.{edges_in};

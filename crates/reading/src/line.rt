@@ -5,7 +5,8 @@ ghost use Rattle.reading.specs.Field.{field_at};
 use crate::number::{Number, read_number};
 use plan::refusal::Refusal;
 
-// All are counted, the first 31 kept. No line within the tables has more.
+// All are counted, the first 31 kept. No line within the tables has more. No ArrayVec: its length would be no more than what it keeps, and a
+// line is stored with all 32 bytes.
 #[derive(Drop)]
 pub struct Numbers {
     pub kept: [u8; 32],
@@ -52,7 +53,7 @@ impl Numbers {
 
     // The numbers that follow a line's letter, and the length of all of them with byte 10. No iterator: it would have to be a type of this
     // crate's own, which ends by byte 10 or a refusal, and its `enumerate` would give the place of each number but not how many there were.
-    // What was kept before is gone.
+    // The count begins anew; older bytes behind it may stay.
     pub fn read(&mut self, s: &[u8]) -> Result<usize, Refusal>
         ensures { NumbersRead s.now result self.new }
     {

@@ -44,7 +44,8 @@ fn count_inputs(namings: &mut Namings, steps: StepLines<'_>)
     }
 }
 
-// The id of the i-th line, if it is a Cache.
+// The id of the i-th line, if it is a Cache. Bytes, with a place or a number, from here to ids_differ: they ask only that the lines are few,
+// which is less than StepLines does.
 fn count_id(namings: &mut Namings, steps: &[u8; 1024], i: usize)
     requires { i < 32 }
     ensures { namings.new ≡ named_each namings.old (id_of (stored_step steps.now i)) }
@@ -54,8 +55,7 @@ fn count_id(namings: &mut Namings, steps: &[u8; 1024], i: usize)
     }
 }
 
-// The ids of the Cache lines among the first n P lines. Bytes and a number, here and in ids_differ: they ask only that the lines are few,
-// which is less than StepLines does.
+// The ids of the Cache lines among the first n P lines.
 fn count_ids(namings: &mut Namings, steps: &[u8; 1024], n: usize)
     requires { n ≤ 32 }
     ensures { namings.new ≡ named_each namings.old (cache_ids (stored_steps steps.now n)) }
