@@ -31,19 +31,31 @@ id_of s = if same_ir s.kind IR.Cache then s.a ∷ [] else []
 
 -- The pass behind 8 and 12 ------------------------------------------------------------------------------------------------
 
--- one line's number, for any names
+-- how often a number is named, by the names or by the counts
+abbrev pub by_names : List ℕ → ℕ → ℕ
+by_names names i = times i names
+
+abbrev pub by_counts : List ℕ → ℕ → ℕ
+by_counts counts i = get_or counts i 0
+
+-- one line's number, where `count` says how often
+abbrev expr_fault_where : (ℕ → ℕ) → ℕ × Expr → ℕ
+expr_fault_where count (i, e) = if eqb (count i) 1 then 0 else use_number (count i)
+
+abbrev step_fault_where : (ℕ → ℕ) → ℕ × Step → ℕ
+step_fault_where count (n, s) = if use_right s.kind (count n) then 0 else use_number (count n)
+
 abbrev pub expr_fault_in : List ℕ → ℕ × Expr → ℕ
-expr_fault_in names (i, e) = if eqb (times i names) 1 then 0 else use_number (times i names)
+expr_fault_in names = expr_fault_where (by_names names)
 
 abbrev pub step_fault_in : List ℕ → ℕ × Step → ℕ
-step_fault_in names (n, s) = if use_right s.kind (times n names) then 0 else use_number (times n names)
+step_fault_in names = step_fault_where (by_names names)
 
--- the same by counts
 abbrev pub expr_fault_by : List ℕ → ℕ × Expr → ℕ
-expr_fault_by counts (i, e) = if eqb (get_or counts i 0) 1 then 0 else use_number (get_or counts i 0)
+expr_fault_by counts = expr_fault_where (by_counts counts)
 
 abbrev pub step_fault_by : List ℕ → ℕ × Step → ℕ
-step_fault_by counts (n, s) = if use_right s.kind (get_or counts n 0) then 0 else use_number (get_or counts n 0)
+step_fault_by counts = step_fault_where (by_counts counts)
 
 -- by the first line that is not named rightly, if there is one
 abbrev pub first_number : List ℕ → Option ℕ → ℕ
@@ -65,9 +77,12 @@ steps_fault ss = first_fault (map (step_fault_in (named ss)) (numbered 0 ss))
 unfoldable pub ids_once : List Step → Bool
 ids_once ss = all? (id_right ss) (numbered 0 ss)
 
--- for any names
+-- one line's, where `count` says how often an id stands
+abbrev id_once_where : (ℕ → ℕ) → ℕ × Step → Bool
+id_once_where count (n, s) = not (same_ir s.kind IR.Cache) || eqb (count s.a) 1
+
 abbrev pub id_once_in : List ℕ → ℕ × Step → Bool
-id_once_in names (n, s) = not (same_ir s.kind IR.Cache) || eqb (times s.a names) 1
+id_once_in names = id_once_where (by_names names)
 
 abbrev pub id_once_by : List ℕ → ℕ × Step → Bool
-id_once_by counts (n, s) = not (same_ir s.kind IR.Cache) || eqb (get_or counts s.a 0) 1
+id_once_by counts = id_once_where (by_counts counts)

@@ -1,5 +1,5 @@
 // The numbers of a line: each behind a comma, up to byte 10.
-ghost use Rattle.std.specs.Prelude.{◌≡◌, ◌+◌, ◌<◌, ◌^◌, length};
+ghost use Rattle.std.specs.Prelude.{◌≡◌, ◌+◌, ◌<◌, ◌^◌, length, replicate};
 ghost use Rattle.reading.specs.Field.{field_at};
 
 use crate::number::{Number, read_number};
@@ -33,7 +33,7 @@ impl Numbers {
     ghost use Rattle.reading.specs.Line.{placed, NumbersRead};
 
     pub fn new() -> Numbers
-        ensures { result.count ≡ 0 }
+        ensures { (result.kept ≡ replicate 32 0) × (result.count ≡ 0) }
     {
         Numbers {
             kept: [0; 32],
