@@ -1,74 +1,40 @@
 -- A paper's two blocks: no P line has the letter G, and every G line begins with it.
 use Rattle.std.specs.Prelude.{if◌then◌else◌}
-use mathlib.Core.Path.{◌≡◌, refl, ap, sym, ◌∙◌, subst}
-use Prim.Native.Nat.{ℕ, zero, suc, ◌+◌, ◌≤◌, ◌<◌, ◌%◌, ◌/◌}
+use mathlib.Core.Path.{◌≡◌, refl, ap, sym, ◌∙◌}
+use Prim.Native.Nat.{ℕ, ◌≤◌}
 use native.Mathlib.Omega.{arith}
-use native.Mathlib.Decide.{dec_lt}
-use native.Mathlib.Nat.{not-suc-le-zero}
 use mathlib.Core.Bool.{Bool, true, false, not}
 use mathlib.Core.List.{List, [], ◌∷◌, ◌++◌, append-nil}
 use lib.Dec.{T, eqb}
 use lib.ListN.{length}
-use borrow.Author.Tests.{ne_eqb}
 use Rattle.plan.specs.Lists.{all?, concat_map}
 use Rattle.plan.specs.Text.{decimal, line, step_line, edge_line, steps_block, edges_block}
 use Rattle.plan.specs.Visit.{Run}
-use Rattle.plan.proofs.Booleans.{and_both}
-use Rattle.plan.proofs.Decimals.{decimal_one, decimal_more}
 use Rattle.plan.proofs.ListLaws.{and_left, and_right}
+use Rattle.plan.proofs.Without.{other, Without, without_append, without_all, without_decimal}
 use Rattle.marking.specs.Marking.{right_paper, before_G, from_G}
 
 -- Bytes without the letter G ------------------------------------------------------------------------------------------------------
 
-abbrev other : ℕ → Bool
-other b = not (eqb b 71)
+abbrev free : ℕ → Bool
+free = other 71
 
 abbrev GFree : List ℕ → Type 0
-GFree x = T (all? other x)
-
-free_append : (x y : List ℕ) → GFree x → GFree y → GFree (x ++ y)
-unfolding all?
-free_append [] y p q = q
-free_append (b ∷ x) y p q =
-    and_both (other b) (all? other (x ++ y)) (and_left (other b) (all? other x) p)
-    (free_append x y (and_right (other b) (all? other x) p) q)
-
-free_digit : (n : ℕ) → n < 10 → T (other (48 + n))
-free_digit n h = rw (ne_eqb (48 + n) 71 (λ e. omega (arith, h, e))) tt
-
-free_one : (n : ℕ) → n < 10 → GFree ((48 + n) ∷ [])
-unfolding all?
-free_one n h = and_both (other (48 + n)) true (free_digit n h) tt
-
--- the fuel is above the number
-free_decimal : (f n : ℕ) → n < f → GFree (decimal n)
-free_decimal zero n h = absurd (not-suc-le-zero h)
-free_decimal (suc f) n h = by (dec_lt n 10) (λ m. free_decimal f (n / 10) (omega (arith, h, m)))
-  where
-    by : Dec (n < 10) → (10 ≤ n → GFree (decimal (n / 10))) → GFree (decimal n)
-    by (yes m) again = subst GFree (sym (decimal_one n m)) (free_one n m)
-    by (no m) again =
-        let more : 10 ≤ n = omega (arith, m) in
-        subst GFree (sym (decimal_more n more)) (free_append (decimal (n / 10)) ((48 + n % 10) ∷ []) (again more) (free_one (n % 10) (omega arith)))
-
-free_all : {A : Type 0} (f : A → List ℕ) → ((a : A) → GFree (f a)) → (l : List A) → GFree (concat_map f l)
-unfolding concat_map all?
-free_all f h [] = tt
-free_all f h (a ∷ l) = free_append (f a) (concat_map f l) (h a) (free_all f h l)
+GFree = Without 71
 
 free_number : (n : ℕ) → GFree (44 ∷ decimal n)
 unfolding all?
-free_number n = free_decimal (suc n) n (omega arith)
+free_number n = without_decimal 71 (λ d h e. omega arith) n
 
 free_line : (ns : List ℕ) → GFree (line 80 ns)
 unfolding line all?
-free_line ns = free_append (concat_map (λ n. 44 ∷ decimal n) ns) (10 ∷ []) (free_all (λ n. 44 ∷ decimal n) free_number ns) tt
+free_line ns = without_append 71 (concat_map (λ n. 44 ∷ decimal n) ns) (10 ∷ []) (without_all 71 (λ n. 44 ∷ decimal n) free_number ns) tt
 
 -- they stand before the first G
 before_free : (x y : List ℕ) → GFree x → before_G (x ++ y) ≡ x ++ before_G y
 unfolding all? before_G
 before_free [] y p = refl
-before_free (b ∷ x) y p = by (eqb b 71) (and_left (other b) (all? other x) p) (before_free x y (and_right (other b) (all? other x) p))
+before_free (b ∷ x) y p = by (eqb b 71) (and_left (free b) (all? free x) p) (before_free x y (and_right (free b) (all? free x) p))
   where
     by : (t : Bool) → T (not t) → before_G (x ++ y) ≡ x ++ before_G y → (if t then [] else b ∷ before_G (x ++ y)) ≡ b ∷ x ++ before_G y
     by true h e = absurd h
@@ -77,7 +43,7 @@ before_free (b ∷ x) y p = by (eqb b 71) (and_left (other b) (all? other x) p) 
 from_free : (x y : List ℕ) → GFree x → from_G (x ++ y) ≡ from_G y
 unfolding all? from_G
 from_free [] y p = refl
-from_free (b ∷ x) y p = by (eqb b 71) (and_left (other b) (all? other x) p) (from_free x y (and_right (other b) (all? other x) p))
+from_free (b ∷ x) y p = by (eqb b 71) (and_left (free b) (all? free x) p) (from_free x y (and_right (free b) (all? free x) p))
   where
     by : (t : Bool) → T (not t) → from_G (x ++ y) ≡ from_G y → (if t then b ∷ x ++ y else from_G (x ++ y)) ≡ from_G y
     by true h e = absurd h
@@ -107,7 +73,7 @@ module _ {A : Type 0} (row : A → List ℕ) where
   from_lines (a ∷ l) = refl
 
   free_lines : (l : List A) → GFree (concat_map (λ a. line 80 (row a)) l)
-  free_lines l = free_all (λ a. line 80 (row a)) (λ a. free_line (row a)) l
+  free_lines l = without_all 71 (λ a. line 80 (row a)) (λ a. free_line (row a)) l
 
   pub from_steps : (l : List A) → from_G (concat_map (λ a. line 80 (row a)) l) ≡ []
   unfolding from_G

@@ -36,6 +36,15 @@ pub decimal_more : (n : ℕ) → 10 ≤ n → decimal n ≡ decimal (n / 10) ++ 
 decimal_more n h =
     digits_high n n h ∙ ap (λ (d : List ℕ). d ++ ((48 + n % 10) ∷ [])) (enough n (suc (n / 10)) (n / 10) (omega arith) (omega arith))
 
+pub decimal_two : (n : ℕ) → 10 ≤ n → n < 100 → decimal n ≡ (48 + n / 10) ∷ (48 + n % 10) ∷ []
+decimal_two n h l = decimal_more n h ∙ ap (λ (d : List ℕ). d ++ ((48 + n % 10) ∷ [])) (decimal_one (n / 10) (omega arith))
+
+pub decimal_three : (n : ℕ) → 100 ≤ n → n < 1000 → decimal n ≡ (48 + n / 100) ∷ (48 + n / 10 % 10) ∷ (48 + n % 10) ∷ []
+decimal_three n h l =
+    decimal_more n (omega arith)
+    ∙ ap (λ (d : List ℕ). d ++ ((48 + n % 10) ∷ []))
+    (decimal_two (n / 10) (omega arith) (omega arith) ∙ ap (λ (k : ℕ). (48 + k) ∷ (48 + n / 10 % 10) ∷ []) (omega arith))
+
 -- below 10 ^ (k + 1) there are at most k + 1 digits
 pub decimal_short : (k n : ℕ) → n < 10 ^ suc k → length (decimal n) ≤ suc k
 decimal_short zero n h = omega (arith, ap length (decimal_one n (omega arith)))

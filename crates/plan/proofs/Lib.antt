@@ -6,6 +6,7 @@ pub mod Outcomes
 pub mod KindNumbers
 pub mod FunctionOutput
 pub mod Decimals
+pub mod Without
 pub mod Settling
 pub mod FaultLaws
 pub mod Firsts

@@ -1,12 +1,12 @@
 -- A number behind its comma, digit by digit.
-use mathlib.Core.Path.{◌≡◌, refl, ap, ◌∙◌}
+use mathlib.Core.Path.{refl, ap}
 use mathlib.Core.List.{List, [], ◌∷◌, ◌++◌}
 use Prim.Native.Nat.{ℕ, ◌+◌, ◌<◌, ◌≤◌, ◌/◌, ◌%◌, ◌^◌}
 use native.Mathlib.Omega.{arith}
 use native.Mathlib.Decide.{dec_lt}
 use lib.ListN.{length, set, length-append}
 use Rattle.plan.specs.Text.{decimal}
-use Rattle.plan.proofs.Decimals.{decimal_one, decimal_more, decimal_short}
+use Rattle.plan.proofs.Decimals.{decimal_one, decimal_more, decimal_two, decimal_three, decimal_short}
 use Rattle.writing.specs.Wrote.{Wrote, field}
 
 put_two : (a b : ℕ) (o : List ℕ) → 2 ≤ length o → Wrote (a ∷ b ∷ []) o (set (set o 0 a) 1 b) 2
@@ -26,15 +26,6 @@ put_four a b c d (x ∷ []) h = absurd (omega arith)
 put_four a b c d (x ∷ y ∷ []) h = absurd (omega arith)
 put_four a b c d (x ∷ y ∷ z ∷ []) h = absurd (omega arith)
 put_four a b c d (x ∷ y ∷ z ∷ w ∷ o) h = record { len = refl; bytes = refl }
-
-decimal_two : (n : ℕ) → 10 ≤ n → n < 100 → decimal n ≡ (48 + n / 10) ∷ (48 + n % 10) ∷ []
-decimal_two n h l = decimal_more n h ∙ ap (λ (d : List ℕ). d ++ ((48 + n % 10) ∷ [])) (decimal_one (n / 10) (omega arith))
-
-decimal_three : (n : ℕ) → 100 ≤ n → n < 1000 → decimal n ≡ (48 + n / 100) ∷ (48 + n / 10 % 10) ∷ (48 + n % 10) ∷ []
-decimal_three n h l =
-    decimal_more n (omega arith)
-    ∙ ap (λ (d : List ℕ). d ++ ((48 + n % 10) ∷ []))
-    (decimal_two (n / 10) (omega arith) (omega arith) ∙ ap (λ (k : ℕ). (48 + k) ∷ (48 + n / 10 % 10) ∷ []) (omega arith))
 
 -- one digit, two, three
 module _ (n : ℕ) (o : List ℕ) (room : 4 ≤ length o) where
