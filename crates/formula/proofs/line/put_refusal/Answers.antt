@@ -1,0 +1,7 @@
+use native.Mathlib.Omega.{arith}
+use Rattle.writing.specs.Refusal.{refusal_line}
+use Rattle.formula.proofs.line.put_refusal.Goals as goal
+
+pub returns : goal.returns
+unfolding refusal_line
+returns c = (rw (← c.from.ensures) c.put_line.ensures.0, omega arith)

@@ -1,0 +1,9 @@
+use mathlib.Core.Path.{sym, ◌∙◌}
+use Rattle.formula.proofs.Seeing.{sign_wanted, sign_had}
+use Rattle.formula.proofs.seen.Seen.sign.Goals as goal
+
+pub returns-then-wants : goal.returns-then-wants
+returns-then-wants c = λ level b. sign_wanted b _ level (sym c.wants.ensures ∙ c.if-wants.true)
+
+pub returns : goal.returns
+returns c = λ level b. sign_had b _ level (sym c.wants.ensures ∙ c.if-wants.false)

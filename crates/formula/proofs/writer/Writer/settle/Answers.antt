@@ -1,0 +1,13 @@
+use native.Mathlib.Omega.{arith}
+use Rattle.formula.proofs.Going.{going_on, going_light, going_empty}
+use Rattle.formula.proofs.writer.Writer.settle.Goals as goal
+
+pub loop-self-preserved : goal.loop-self-preserved
+loop-self-preserved c =
+    going_on _ _ _ _ _ _ _ c.loop-self.invariant (omega (arith, c.loop-self-test.true)) c.if-self-weight.true c.join.ensures.line c.join.ensures.count
+
+pub returns-else-self-weight : goal.returns-else-self-weight
+returns-else-self-weight c = going_light _ _ _ _ _ c.loop-self.invariant (omega (arith, c.loop-self-test.true)) c.if-self-weight.false
+
+pub returns-after-loop-self : goal.returns-after-loop-self
+returns-after-loop-self c = going_empty _ _ _ _ _ c.loop-self.invariant (omega (arith, c.loop-self-test.false))

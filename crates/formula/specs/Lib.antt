@@ -1,0 +1,9 @@
+pub mod Tokens
+pub mod Formula
+pub mod Parse
+pub mod Converted
+pub mod Language
+pub mod OnASheet
+pub mod LineFront
+pub mod Seen
+pub mod Written
