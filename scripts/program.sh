@@ -1,7 +1,7 @@
 # shellcheck shell=bash
-# What ./finish, ./mark and ./mark-all share: a program of crates/ that is proved and built from the sources as they stand.
+# What ./finish, ./formula, ./mark and ./mark-all share: a program of crates/ that is proved and built from the sources as they stand.
 # To be sourced by bash, with `root` the top of the repository. How they end:
-#   0 finished, or right    1 wrong    2 refused    3 not read, or the answer could not be written
+#   0 finished, converted, or right    1 wrong    2 refused    3 not read, or the answer could not be written
 #   64 called in another way than the usage says    70 the program could not be built, or ended as no program of ours does
 unset CDPATH
 # Whatever else goes wrong must not end with 1, which is a mark.
@@ -66,14 +66,14 @@ why_build() {
 # says nothing, so whether it was built is seen by the program that rt leaves. What is noted has the time at which the build began:
 # a source that changes meanwhile is newer.
 build() {
-    local folder log="$root/target/build-$name.log" made="$root/crates/$name/out/$name"
+    local folder log="$root/target/build-$name.log" made="$root/crates/$crate/out/$crate"
     printf '%s: %s: proving and building it, up to some minutes; log: %s\n' "${0##*/}" "$1" "$log" >&2
     command -v rt > /dev/null || fail 'that needs the Rattle toolchain, and there is no command rt'
     rm -f "$made"
     # so that no folder of sources changes by what rt makes
     for folder in "$root"/crates/*/; do mkdir -p "$folder/out"; done
     : > "$note.began"
-    (cd "$root/crates/$name" && rt run) < /dev/null > "$log" 2>&1 || true
+    (cd "$root/crates/$crate" && rt run) < /dev/null > "$log" 2>&1 || true
     [ -s "$made" ] && [ -x "$made" ] || fail 'not proved or not built; the log says why'
     mkdir -p "$root/target/bin"
     cp -f "$made" "$program"
@@ -83,11 +83,12 @@ build() {
     rm "$note.began"
 }
 
-# ready NAME: sets `program` to the program of crates/NAME, built from the sources as they stand. Two that build at once would
-# write to the same files, so the second waits, and then mostly finds it done.
+# ready NAME [CRATE]: sets `program` to the program of crates/CRATE, built from the sources as they stand; the crate is named where a
+# library has the program's name. Two that build at once would write to the same files, so the second waits, and then mostly finds it done.
 ready() {
     local why
     name="$1"
+    crate="${2:-$1}"
     program="$root/target/bin/$name"
     note="$root/target/built/$name"
     [ -n "$(why_build)" ] || return 0
@@ -111,4 +112,22 @@ mark_of() {
     else
         "$program" /dev/fd/3 /dev/fd/4 3< "$1" 4< "$2"
     fi
+}
+
+# answer_input NAME [CRATE]: prints what the program answers to standard input, and ends by it.
+answer_input() {
+    local answer
+    # Where standard input is closed, a pipe of this script would take its place, and the program would wait for itself.
+    if [ ! -e /dev/fd/0 ]; then
+        printf '%s: standard input is closed\n' "$1" >&2
+        exit 3
+    fi
+    ready "$@"
+    answer="$("$program" && echo .)" || fail 'the program broke off'
+    answer="${answer%.}"
+    [ -n "$answer" ] || exit 3
+    printf '%s' "$answer" || exit 3
+    case "$answer" in
+    R,*) exit 2 ;;
+    esac
 }
