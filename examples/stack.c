@@ -1,7 +1,7 @@
-/* How much stack the two calls take: each file named is finished, and marked against its own bytes, on a thread whose stack was
-   filled beforehand. Prints the bytes from the frame of the caller down to the lowest byte that was changed, of each file and call,
-   and the most. With --batch the files hold many sheets, each followed by three dashes and byte 10, as oracle's gen prints them, and
-   only the most is printed. examples/try.sh builds and runs it. POSIX threads; the stack grows downwards. */
+/* How much stack the three calls take: each file named is finished, marked against its own bytes, and converted as a formula, on a
+   thread whose stack was filled beforehand. Prints the bytes from the frame of the caller down to the lowest byte that was changed, of
+   each file and call, and the most of each call. With --batch the files hold many sheets, each followed by three dashes and byte 10, as
+   oracle's gen prints them, and only the most is printed. examples/try.sh builds and runs it. POSIX threads; the stack grows downwards. */
 #include <pthread.h>
 #include <stdio.h>
 #include <stdlib.h>
@@ -12,10 +12,12 @@
 #define STACK (1024 * 1024)
 #define FILL 0xA5
 
+enum kind { FINISH, MARK, CONVERT, KINDS };
+
 struct call {
-    const uint8_t *sheet;
+    enum kind kind;
+    const uint8_t *bytes;
     size_t length;
-    int marks;
     uint8_t *lowest; /* of the thread's stack */
     size_t taken;
 };
@@ -25,19 +27,27 @@ static uint8_t out[SIMPLIFY_ORDERING_LEAST_OUTPUT];
 static void *run(void *given) {
     struct call *call = (struct call *)given;
     uint8_t here = 0;
-    size_t finished, untouched = 0;
+    size_t written, untouched = 0;
 
-    if (call->marks)
-        simplify_ordering_mark(call->sheet, call->length, call->sheet, call->length, out, sizeof out);
-    else
-        simplify_ordering_finish(call->sheet, call->length, out, sizeof out, &finished);
+    switch (call->kind) {
+    case FINISH:
+        simplify_ordering_finish(call->bytes, call->length, out, sizeof out, &written);
+        break;
+    case MARK:
+        simplify_ordering_mark(call->bytes, call->length, call->bytes, call->length, out, sizeof out);
+        break;
+    default:
+        simplify_ordering_formula(call->bytes, call->length, out, sizeof out, &written);
+    }
     while (call->lowest[untouched] == FILL)
         untouched++;
     call->taken = (size_t)((uintptr_t)&here - (uintptr_t)call->lowest) - untouched;
     return NULL;
 }
 
-static size_t taken_by(const uint8_t *sheet, size_t length, int marks) {
+static size_t most[KINDS];
+
+static size_t taken_by(enum kind kind, const uint8_t *bytes, size_t length) {
     struct call call;
     pthread_attr_t attributes;
     pthread_t thread;
@@ -46,9 +56,9 @@ static size_t taken_by(const uint8_t *sheet, size_t length, int marks) {
     if (posix_memalign(&stack, 4096, STACK) != 0)
         exit(1);
     memset(stack, FILL, STACK);
-    call.sheet = sheet;
+    call.kind = kind;
+    call.bytes = bytes;
     call.length = length;
-    call.marks = marks;
     call.lowest = (uint8_t *)stack;
     call.taken = 0;
     pthread_attr_init(&attributes);
@@ -57,20 +67,22 @@ static size_t taken_by(const uint8_t *sheet, size_t length, int marks) {
     pthread_join(thread, NULL);
     pthread_attr_destroy(&attributes);
     free(stack);
+    if (call.taken > most[kind])
+        most[kind] = call.taken;
     return call.taken;
 }
 
-static size_t most = 0;
+static void print(const char *name, size_t finish, size_t mark, size_t formula) {
+    printf("%s: finish %lu, mark %lu, formula %lu\n", name, (unsigned long)finish, (unsigned long)mark, (unsigned long)formula);
+}
 
-static void measure(const char *name, const uint8_t *sheet, size_t length, int print) {
-    size_t finish = taken_by(sheet, length, 0), mark = taken_by(sheet, length, 1);
+/* Without a name only the most is kept. */
+static void measure(const char *name, const uint8_t *bytes, size_t length) {
+    size_t finish = taken_by(FINISH, bytes, length), mark = taken_by(MARK, bytes, length);
+    size_t formula = taken_by(CONVERT, bytes, length);
 
-    if (print)
-        printf("%s: finish %lu, mark %lu\n", name, (unsigned long)finish, (unsigned long)mark);
-    if (finish > most)
-        most = finish;
-    if (mark > most)
-        most = mark;
+    if (name != NULL)
+        print(name, finish, mark, formula);
 }
 
 static void measure_batch(uint8_t *text, size_t length) {
@@ -78,7 +90,7 @@ static void measure_batch(uint8_t *text, size_t length) {
 
     for (; at + 4 <= length; at++)
         if (memcmp(text + at, "---\n", 4) == 0) {
-            measure("", text + from, at - from, 0);
+            measure(NULL, text + from, at - from);
             from = at + 4;
         }
 }
@@ -97,7 +109,7 @@ static void measure_file(const char *path, int batch) {
     if (batch)
         measure_batch(text, length);
     else
-        measure(path, text, length, 1);
+        measure(path, text, length);
 }
 
 int main(int count, char **words) {
@@ -105,6 +117,6 @@ int main(int count, char **words) {
 
     for (i = 1 + batch; i < count; i++)
         measure_file(words[i], batch);
-    printf("the most: %lu bytes\n", (unsigned long)most);
+    print("the most", most[FINISH], most[MARK], most[CONVERT]);
     return 0;
 }

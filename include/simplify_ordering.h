@@ -1,4 +1,5 @@
-/* Two calls: a sheet of bytes in, its finished sheet or the number of a refusal out; and a paper marked against a sheet. */
+/* Three calls: a sheet of bytes in, its finished sheet or the number of a refusal out; a paper marked against a sheet; and a formula
+   in, its E lines or the number of a refusal out. */
 #ifndef SIMPLIFY_ORDERING_H
 #define SIMPLIFY_ORDERING_H
 
@@ -9,8 +10,9 @@
 extern "C" {
 #endif
 
-/* The longest sheet that is read, and the least output that has to be lent. */
+/* The longest sheet and the longest formula that are read, and the least output that has to be lent. */
 #define SIMPLIFY_ORDERING_LONGEST_SHEET 16384
+#define SIMPLIFY_ORDERING_LONGEST_FORMULA 16384
 #define SIMPLIFY_ORDERING_LEAST_OUTPUT 16384
 
 /* What is answered: 0, or the number of the refusal. The first fault decides. They are looked for in the order in which they
@@ -55,6 +57,22 @@ enum simplify_ordering_verdict {
    It takes at most 64 KiB of stack. */
 uint8_t simplify_ordering_mark(const uint8_t *sheet, size_t sheet_length, const uint8_t *paper, size_t paper_length,
                                uint8_t *out, size_t out_length);
+
+/* What converting a formula answers, besides two numbers of simplify_ordering_answer, which come first: SIMPLIFY_ORDERING_OUTPUT, and
+   SIMPLIFY_ORDERING_LENGTH for a formula that is longer than the longest. 15 is looked for last. */
+enum simplify_ordering_conversion {
+    SIMPLIFY_ORDERING_CONVERTED = 0,   /* the formula's E lines stand at the front of the output */
+    SIMPLIFY_ORDERING_NO_FORMULA = 14, /* not a formula: docs/GUIDE.md says what one is. A line end is no part of one */
+    SIMPLIFY_ORDERING_MANY_LINES = 15  /* a formula of 65 or more operands, whose E lines are more than 128 */
+};
+
+/* Converts the formula. For 0, *converted is the length of its E lines, which stand at the front of `out` and name one another from
+   line 0 on; the bytes behind them are as they were. For a refusal, *converted is 0 and every byte of `out` is as it was.
+   No pointer may be null, not even with a length of 0. `out` and *converted overlap neither each other nor the formula, and
+   nobody else writes to any of the three before the call returns. It keeps no pointer and no state.
+   It takes at most 64 KiB of stack. */
+uint8_t simplify_ordering_formula(const uint8_t *formula, size_t formula_length, uint8_t *out, size_t out_length,
+                                  size_t *converted);
 
 #ifdef __cplusplus
 }

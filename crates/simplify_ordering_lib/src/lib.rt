@@ -5,6 +5,8 @@ ghost use Rattle.std.specs.Prelude.{◌≡◌};
 ghost use Rattle.plan.specs.Finished as plan;
 ghost use Rattle.plan.specs.Finished.{answer_number, answer_length};
 ghost use Rattle.marking.specs.Marking.{marked, mark_answer};
+ghost use Rattle.formula.specs.Converted as converter;
+ghost use Rattle.formula.specs.Converted.{convert};
 
 use marking::answer::Mark;
 
@@ -36,6 +38,25 @@ pub extern "C" fn simplify_ordering_mark(sheet: &[u8], paper: &[u8], out: &mut [
     match marking::mark(sheet, paper, out) {
         Ok(Mark::Right) => 0,
         Ok(Mark::Wrong) => 255,
+        Err(refusal) => u8::from(refusal),
+    }
+}
+
+// The refusal's number, 0 for a formula that is converted; the length of its lines goes out through `length`, 0 for a refusal.
+#[unsafe(no_mangle)]
+pub extern "C" fn simplify_ordering_formula(
+    formula: &[u8],
+    out: &mut [u8],
+    length: &mut usize,
+) -> u8
+    ensures value { result ≡ converter.answer_number (convert formula.now out.old).answer }
+    ensures length_after { length.new ≡ converter.answer_length (convert formula.now out.old).answer }
+    ensures out_after { out.new ≡ (convert formula.now out.old).output }
+{
+    let answer = formula::convert(formula, out);
+    *length = answer.unwrap_or(0);
+    match answer {
+        Ok(_) => 0,
         Err(refusal) => u8::from(refusal),
     }
 }
