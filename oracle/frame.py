@@ -1,12 +1,12 @@
 """The form of a case of crates/cases, for the scripts freeze_*.py.
 
-A case is the lengths of three parts in two bytes each, the high one first, and then the parts: the sheet, what else is asked, and
-what is told. The modules of crates/cases say what these are in each folder. The program takes parts of 65,536 bytes together.
+A case is the lengths of three parts in two bytes each, the high one first, and then the parts: the sheet or the formula, what else is
+asked, and what is told. The modules of crates/cases say what these are in each folder. The program takes parts of 65,536 bytes together.
 """
 import pathlib
 
 CRATE = pathlib.Path(__file__).resolve().parent.parent / "crates" / "cases"
-FOLDERS = ["reading", "graph", "lists", "sheets", "papers"]
+FOLDERS = ["reading", "graph", "lists", "sheets", "papers", "formulas"]
 
 
 def two(n):

@@ -1,14 +1,16 @@
 #!/usr/bin/env python3
-"""Freezes the sheets of hand_made_readings.py and the papers of hand_made_papers.py, for the crate cases.
+"""Freezes the sheets of hand_made_readings.py, the papers of hand_made_papers.py and the formulas of hand_made_formulas.py, for the crate
+cases.
 
     oracle/freeze_hand_made.py
 
-It writes the folders reading and papers of crates/cases/data, and their blocks of crates/cases/stdout. The answers are those
-written by hand; the oracle is not asked.
+It writes the folders reading, papers and formulas of crates/cases/data, and their blocks of crates/cases/stdout. The answers are those
+written by hand, and of formulas also what the rules of their script give; the oracle is not asked.
 """
 import sys
 
 sys.dont_write_bytecode = True
+import hand_made_formulas
 import hand_made_papers
 import hand_made_readings
 from frame import freeze, two
@@ -24,9 +26,16 @@ def paper(case):
     return case.sheet, two(case.lent) + case.paper, two(int(count)) + line.encode() + b"\n"
 
 
+def formula(case):
+    """What is told is the refusal's number, or 0 and the lines."""
+    told = bytes([case.says]) if isinstance(case.says, int) else b"\x00" + case.says
+    return case.formula, two(case.lent), told
+
+
 def main():
     freeze("reading", [reading(*case) for case in hand_made_readings.ALL])
     freeze("papers", [paper(case) for case in hand_made_papers.ALL])
+    freeze("formulas", [formula(case) for case in hand_made_formulas.ALL])
 
 
 main()

@@ -1,8 +1,9 @@
-//! The reference answer: a sheet is read and checked here, finished by the Rust, and printed here.
+//! The reference answer: a sheet is read and checked here, finished by the Rust, and printed here; a formula is converted here.
 pub mod batch;
 pub mod cpu_time;
 pub mod expr_lines;
 pub mod faults;
+pub mod formula;
 pub mod generate;
 pub mod kinds;
 mod panics;

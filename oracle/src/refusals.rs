@@ -13,3 +13,6 @@ pub const JOIN: u8 = 10;
 pub const PARTITIONED_SINK: u8 = 11;
 pub const REUSED: u8 = 12;
 pub const CACHE_ID: u8 = 13;
+pub const NO_FORMULA: u8 = 14;
+/// A formula with more E lines than there is room for.
+pub const MANY_LINES: u8 = 15;

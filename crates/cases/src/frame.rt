@@ -4,7 +4,7 @@ ghost use Rattle.std.specs.Prelude.{◌+◌, ◌<◌, ◌≤◌, length, IfOk};
 use std::io::Read;
 use streams::fill;
 
-// The sheet, what else is asked, and what is told.
+// The sheet, or the formula; what else is asked, and what is told.
 #[derive(Clone, Copy)]
 pub struct Case<'a> {
     pub sheet: &'a [u8],

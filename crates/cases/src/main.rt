@@ -10,6 +10,7 @@ use std::io::Read;
 use std::{fs, io};
 use streams::ok_or_tell;
 
+mod formulas;
 mod frame;
 mod graph;
 mod lists;
@@ -59,5 +60,6 @@ fn main(rt: HostRuntime) -> io::Result<()> {
         sheets::agrees(case, &mut answers)
     })?;
     sheets::report_answers(&rt, &answers)?;
-    run_folder(&rt, "papers", "papers/cases", papers::agrees)
+    run_folder(&rt, "papers", "papers/cases", papers::agrees)?;
+    run_folder(&rt, "formulas", "formulas/cases", formulas::agrees)
 }

@@ -5,7 +5,7 @@ use plan::answer::Finished;
 use plan::refusal::Refusal;
 use std::io;
 
-// The byte that stands everywhere in an output before the call; no finished sheet has it.
+// The byte that stands everywhere in an output before the call; no finished sheet has it, and no line.
 pub const FILLER: u8 = 170;
 
 // An output of more bytes than any case asks for.
@@ -16,9 +16,9 @@ fn untouched(out: &[u8]) -> bool {
     out.iter().all(|byte| *byte == FILLER)
 }
 
-// Does the output hold the finished sheet, and behind it what it held before?
-fn finished_right(out: &[u8], finished: &[u8]) -> bool {
-    out.strip_prefix(finished).is_some_and(untouched)
+// Does the output hold the text, and behind it what it held before?
+pub(crate) fn holds(out: &[u8], text: &[u8]) -> bool {
+    out.strip_prefix(text).is_some_and(untouched)
 }
 
 // The answer's number, 0 for a finished sheet.
@@ -42,7 +42,7 @@ fn call_agrees(
     let count = &mut answers[usize::from(answered)];
     *count = count.saturating_add(1);
     let length = answer.map_or(0, |f| f.length);
-    answered == number && length == finished.len() && finished_right(out, finished)
+    answered == number && length == finished.len() && holds(out, finished)
 }
 
 pub(crate) fn agrees(case: Case<'_>, answers: &mut [u64; 256]) -> bool {

@@ -1,6 +1,7 @@
-//! Sheets made at random, by families. A sheet follows from family, seed and number alone.
+//! Sheets made at random, by families. A sheet follows from family, seed and number alone; a formula from seed and number.
 mod damage;
 mod deep;
+pub mod formulas;
 mod maker;
 mod noise;
 mod plans;
