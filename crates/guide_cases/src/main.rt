@@ -1,6 +1,7 @@
 // Goes through the guide's examples, and compares each with what the calls answer. data/GUIDE.md is the guide itself.
 // A block of the guide stands between two lines that begin with three backquotes. The first of them may name it: `sheet`; `answer`,
-// what finish prints for the last sheet; `right` and `wrong`, papers to that sheet. All other blocks are passed over.
+// what finish prints for the last sheet; `right` and `wrong`, papers to that sheet; `formula`, a formula and its line end; `lines`, what
+// formula prints for the last formula. All other blocks are passed over.
 #![tactic(auto)]
 
 ghost use Rattle.std.specs.Prelude.{◌-◌, ◌≤◌, length};
@@ -18,6 +19,8 @@ enum Kind {
     Sheet,
     Answer,
     Paper(Mark),
+    Formula,
+    Lines,
     Other,
 }
 
@@ -33,10 +36,11 @@ struct Blocks<'a> {
     rest: &'a [u8],
 }
 
-// How many sheets there were, how many examples agreed, how many did not, and the first of these, counted from 1.
+// How many sheets and formulas there were, how many examples agreed, how many did not, and the first of these, counted from 1.
 #[derive(Clone, Copy, Default)]
 struct Score {
     sheets: u64,
+    formulas: u64,
     agree: u64,
     differ: u64,
     first: Option<u64>,
@@ -45,6 +49,10 @@ struct Score {
 impl Score {
     fn count_sheet(&mut self) {
         self.sheets = self.sheets.saturating_add(1);
+    }
+
+    fn count_formula(&mut self) {
+        self.formulas = self.formulas.saturating_add(1);
     }
 
     fn count(&mut self, agrees: bool) {
@@ -62,13 +70,14 @@ impl Display for Score {
     fn fmt<W: Write>(&self, f: &mut Formatter<W>) -> fmt::Result {
         let Score {
             sheets,
+            formulas,
             agree,
             differ,
             first,
         } = *self;
         write!(
             f,
-            "{sheets} sheets, {agree} examples agree, {differ} differ"
+            "{sheets} sheets, {formulas} formulas, {agree} examples agree, {differ} differ"
         )?;
         if let Some(first) = first {
             write!(f, "\nthe first that differs is {first}")?;
@@ -84,6 +93,8 @@ fn kind_of(line: &[u8]) -> Option<Kind> {
         b"answer\n" => Some(Kind::Answer),
         b"right\n" => Some(Kind::Paper(Mark::Right)),
         b"wrong\n" => Some(Kind::Paper(Mark::Wrong)),
+        b"formula\n" => Some(Kind::Formula),
+        b"lines\n" => Some(Kind::Lines),
         _ => Some(Kind::Other),
     }
 }
@@ -145,9 +156,23 @@ fn mark_is(sheet: &[u8], paper: &[u8], mark: Mark) -> bool {
     marking::mark(sheet, paper, &mut out) == Ok(mark)
 }
 
+// Is the block what formula prints for the formula?
+fn lines_are(formula: &[u8], block: &[u8]) -> bool {
+    let mut out = [0; 16384];
+    match formula::convert(formula, &mut out) {
+        Ok(length) => length == block.len() && out.starts_with(block),
+        Err(refusal) => {
+            let mut line = [0; 6];
+            let n = formula::line::put_refusal(&mut line, refusal);
+            &line[..n] == block
+        }
+    }
+}
+
 fn run_all(guide: &[u8]) -> Score {
     let mut score = Score::default();
     let mut sheet: &[u8] = &[];
+    let mut formula: &[u8] = &[];
     let blocks = Blocks { rest: guide };
     for Block { kind, text } in blocks {
         match kind {
@@ -157,6 +182,12 @@ fn run_all(guide: &[u8]) -> Score {
             }
             Kind::Answer => score.count(answer_is(sheet, text)),
             Kind::Paper(mark) => score.count(mark_is(sheet, text, mark)),
+            Kind::Formula => {
+                score.count_formula();
+                // the line end, which the program takes off
+                formula = text.strip_suffix(b"\n").unwrap_or(text);
+            }
+            Kind::Lines => score.count(lines_are(formula, text)),
             Kind::Other => {}
         }
     }
