@@ -14,7 +14,7 @@ use Rattle.plan.proofs.Counts.{only, sum_concat, times_same, times_other}
 use Rattle.plan.proofs.ListLaws.{sum_append}
 use Rattle.formula.specs.Formula.{Tree, before_own, column, literal, binary, lines}
 
-own_last : (l r : List Expr) (e : Expr) → length (l ++ (r ++ (e ∷ []))) ≡ length l + suc (length r)
+pub own_last : (l r : List Expr) (e : Expr) → length (l ++ (r ++ (e ∷ []))) ≡ length l + suc (length r)
 own_last l r e = omega (arith, length-append l (r ++ (e ∷ [])), length-append r (e ∷ []))
 
 pub lines_count : (n : ℕ) (t : Tree) → length (lines n t) ≡ suc (before_own t)

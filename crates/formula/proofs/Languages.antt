@@ -1,7 +1,7 @@
 -- The call takes just the language, and gives each number on its condition alone.
 use Rattle.std.specs.Prelude.{Option, None, Some}
 use mathlib.Core.Logic.{◌⊎◌, inl, inr}
-use mathlib.Core.Path.{◌≡◌, refl, sym, ap, ◌∙◌}
+use mathlib.Core.Path.{◌≡◌, refl, sym, ap, ◌∙◌, subst}
 use mathlib.Core.List.{List, ◌++◌, Memᴰ}
 use Prim.Native.Nat.{ℕ, ◌*◌, ◌<◌, ◌≤◌}
 use native.Mathlib.Omega.{arith}
@@ -15,9 +15,12 @@ use Rattle.plan.proofs.Counts.{stands_in}
 use Rattle.plan.specs.Sheet.{Expr, Outcome, refused, done, refuse◌when◌else◌, ◌then◌}
 use Rattle.writing.specs.Wrote.{Wrote}
 use Rattle.formula.specs.declared.refusal.Refusal.{Refusal}
+use Rattle.formula.specs.declared.items.Item.{Item}
 use Rattle.formula.specs.Formula.{Whole, Tree, tree, yield, lines, e_lines}
 use Rattle.formula.specs.Parse.{parse}
 use Rattle.formula.specs.Converted.{within_limit, refusal_number, judged, converted, Called, call, called, convert, text, answer_number, answer_length}
+use Rattle.formula.specs.Items.{items_of}
+use Rattle.formula.specs.Progress.{lines_of}
 use Rattle.formula.specs.Language.{refusal_numbers, Enters, Derived, TurnedBack, Converts, Refuses, Language}
 use Rattle.formula.proofs.Derivations.{parse_yield, read_derived, one_reading, none_derived}
 use Rattle.formula.specs.OnASheet.{OnASheet}
@@ -216,11 +219,12 @@ module _ (w output : List ℕ) where
       by (refused n) q p = sym (judged_call w output r h ∙ ap (called output) (q ∙ ap refused (sym p)) ∙ refused_called output (refusal_number e))
       by (done es) q p = absurd (some_number e p)
 
-  -- converted by the second
-  pub written_call : 16384 ≤ length output → length w ≤ 16384 → 0 ≡ answer_number (judged w) → (n : ℕ) (now : List ℕ)
-      → ((es : List Expr) → judged w ≡ done es → Wrote (text es) output now n) → call (done n) now ≡ convert w output
-  written_call r h z n now f =
+  -- converted by the second, from its items
+  pub written_call : 16384 ≤ length output → length w ≤ 16384 → 0 ≡ answer_number (judged w) → (xs : List Item)
+      → ((t : Tree) → parse w ≡ Some t → xs ≡ items_of 0 t) → (n : ℕ) (now : List ℕ) → Wrote (text (lines_of xs)) output now n
+      → call (done n) now ≡ convert w output
+  written_call r h z xs f n now o =
       let a = accepted w (sym z) in
       let es = lines 0 a.tree in
-      let o = f es a.is in
-      sym (judged_call w output r h ∙ ap (called output) a.is ∙ done_called output es ∙ sym (λ i. call (done (o.len i)) (o.bytes i)))
+      let q : Wrote (text es) output now n = subst (λ es. Wrote (text es) output now n) (ap lines_of (f a.tree a.parsed) ∙ a.same) o in
+      sym (judged_call w output r h ∙ ap (called output) a.is ∙ done_called output es ∙ sym (λ i. call (done (q.len i)) (q.bytes i)))

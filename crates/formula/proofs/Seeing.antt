@@ -6,22 +6,27 @@ use mathlib.Core.Bool.{Bool, true, false}
 use mathlib.Core.List.{List, [], ◌∷◌, ◌++◌}
 use Prim.Native.Nat.{ℕ, zero, suc, ◌+◌, ◌*◌, ◌-◌, ◌<◌, ◌≤◌}
 use native.Mathlib.Omega.{arith}
-use native.Mathlib.Decide.{dec_le, dec_lt}
+use native.Mathlib.Decide.{dec_lt}
 use lib.Dec.{eqb, ltb}
+use lib.ListN.{length}
 use borrow.Author.Tests.{lt-ltb, le-ltb, eq-eqb, ne_eqb}
 use Rattle.formula.specs.declared.token.Class.{Class}
 use Rattle.formula.specs.declared.seen.Next.{Next}
 use Rattle.formula.specs.declared.seen.Seen.{Seen}
+use Rattle.formula.specs.declared.items.Kind.{Kind}
+use Rattle.formula.specs.declared.items.Item.{Item}
 use Rattle.formula.specs.Tokens.{level, class}
-use Rattle.formula.specs.Formula.{Tree, operands}
+use Rattle.formula.specs.Formula.{Tree}
 use Tree.{letter, number, bracket, operator}
 use Rattle.formula.specs.Parse.{Frame, Tail, State, Behind, spaced?, reduce, space_before, space_behind, longer, digit_behind, value, close, sign, wanted, had, step, run, reading}
 use Frame.{opened, left}
 use Tail.{digits, closed, spaced}
 use State.{bad, want, have}
-use Rattle.formula.specs.Seen.{depth, operands_before, next_wanted, next_had, wants, seen_as, seen_of, After}
+use Rattle.formula.specs.Items.{item, items_of, depth, items_read, Notes, Noted}
+use Rattle.formula.specs.Seen.{next_wanted, next_had, wants, seen_as, seen_of, More, After}
 use Rattle.formula.proofs.Constructors.{clash, some_same, true_false}
-use Rattle.formula.proofs.Reading.{reduce_take, reduce_stop, run_append, other_bad}
+use Rattle.formula.proofs.Reading.{reduce_take, run_append, other_bad}
+use Rattle.formula.proofs.Noting.{kept, sign_items, SameItems, space_items, opens_items, closes_items, digit_items}
 
 pub wanted_wants : (fs : List Frame) → wants (next_wanted fs) ≡ true
 unfolding next_wanted
@@ -38,10 +43,10 @@ had_wants t closed = refl
 had_wants t spaced = refl
 
 abbrev wanted_seen : List Frame → Seen
-wanted_seen fs = seen_as (next_wanted fs) (depth fs) (operands_before fs)
+wanted_seen fs = seen_as (next_wanted fs) (depth fs)
 
 abbrev had_seen : Tree → Tail → List Frame → Seen
-had_seen t e fs = seen_as (next_had t e) (depth fs) (operands_before fs + operands t)
+had_seen t e fs = seen_as (next_had t e) (depth fs)
 
 module _ (P : State → Seen → Type 0) where
   -- what holds wherever an operand is wanted, and wherever one was read
@@ -64,196 +69,211 @@ pub reading_after : (w : List ℕ) (b : ℕ) → reading (w ++ (b ∷ [])) ≡ s
 unfolding run
 reading_after w b = run_append (want []) w (b ∷ [])
 
--- what is kept after a byte b, by what was kept before: r of it
+none_bad_seen : seen_of bad ≡ None
+unfolding seen_of
+none_bad_seen = refl
+
+pub none_bad : (x : State) → seen_of x ≡ None → x ≡ bad
+unfolding seen_of
+none_bad bad e = refl
+none_bad (want fs) e = clash _ (sym e)
+none_bad (have t l fs) e = clash _ (sym e)
+
+if_good : (P : Type 0) (o : Option Seen) (x : State) → seen_of x ≡ o → ((x ≡ bad → ⊥) → P) → IfSome o (λ _. P)
+if_good P None x e f = tt
+if_good P (Some s) x e f = f (λ z. clash s (sym none_bad_seen ∙ ap seen_of (sym z) ∙ e))
+
+-- o is kept with a byte b of the class c, where s was kept
+abbrev pub Keeps : Class → ℕ → Seen → Option Seen → Type 0
+Keeps c b s o = (x : State) → class b ≡ c → seen_of x ≡ Some s → seen_of (step x b) ≡ o
+
+-- from a byte's step of a state to what is kept and noted with it
+module _ (c : Class) (b : ℕ) (s : Seen) (o : Option Seen) where
+  abbrev Deeper : Type 0
+  Deeper = IfSome o (λ s'. s'.depth ≤ s.depth + 1)
+
+  after_by : (m m' : Notes) (f : List Item → List Item) → Keeps c b s o
+      → ((x : State) → class b ≡ c → seen_of x ≡ Some s → (step x b ≡ bad → ⊥) → items_read (step x b) ≡ f (items_read x))
+      → ((xs : List Item) → Noted m xs → Noted m' (f xs)) → Deeper → length m'.places ≡ length m.places → After c b s m o m'
+  after_by m m' f p q n d l =
+      record {
+        seen = λ w k e. ap seen_of (reading_after w b) ∙ p (reading w) k e;
+        noted = λ w k e h.
+            if_good _ o (step (reading w) b) (p (reading w) k e)
+            (λ g. subst (Noted m') (sym (q (reading w) k e g) ∙ ap items_read (sym (reading_after w b))) (n (items_read (reading w)) h));
+        deeper = d;
+        size = l;
+      }
+
+  -- nothing begins with it
+  goes_on : (m : Notes) → Keeps c b s o → ((x : State) → class b ≡ c → seen_of x ≡ Some s → SameItems x (step x b)) → Deeper → After c b s m o m
+  goes_on m p q d = after_by m m (λ xs. xs) p q (λ xs h. h) d refl
+
+  -- the item k begins with it
+  begins : (m m' : Notes) (k : Kind) → Keeps c b s o
+      → ((x : State) → class b ≡ c → seen_of x ≡ Some s → items_read (step x b) ≡ items_read x ++ (item s.depth k ∷ []))
+      → More s m k m' → Deeper → length m'.places ≡ length m.places → After c b s m o m'
+  begins m m' k p q n d l = after_by m m' (λ xs. xs ++ (item s.depth k ∷ [])) p (λ x h e _. q x h e) n d l
+
+-- it is read to no formula's beginning
+breaks : (c : Class) (b : ℕ) (s : Seen) → Keeps c b s None → (m : Notes) → After c b s m None m
+breaks c b s p m =
+    goes_on c b s None m p (λ x k e g. absurd (g (none_bad (step x b) (p x k e)))) tt
+
+-- The classes ------------------------------------------------------------------------------------------------------------------
+
+-- r of what is kept of a state, with the byte b
 abbrev Then : ℕ → (Seen → Option Seen) → State → Seen → Type 0
 Then b r x s = seen_of (step x b) ≡ r s
 
-after_want : (c : Class) (b : ℕ) (s : Seen) (r : Seen → Option Seen) → wants s.next ≡ true
-    → (class b ≡ c → (fs : List Frame) → Then b r (want fs) (wanted_seen fs))
-    → IfSome (r s) (λ s'. s'.depth + s'.operands ≤ s.depth + s.operands + 1) → After c b s (r s)
-after_want c b s r v p q =
-    record { seen = λ w k e. ap seen_of (reading_after w b) ∙ by_want (Then b r) (p k) (reading w) s e v; counted = q }
-
-after_have : (c : Class) (b : ℕ) (s : Seen) (r : Seen → Option Seen) → wants s.next ≡ false
-    → (class b ≡ c → (t : Tree) (l : Tail) (fs : List Frame) → Then b r (have t l fs) (had_seen t l fs))
-    → IfSome (r s) (λ s'. s'.depth + s'.operands ≤ s.depth + s.operands + 1) → After c b s (r s)
-after_have c b s r v p q =
-    record { seen = λ w k e. ap seen_of (reading_after w b) ∙ by_have (Then b r) (p k) (reading w) s e v; counted = q }
-
--- The classes ------------------------------------------------------------------------------------------------------------------
+-- the state has the item k more
+abbrev Begun : ℕ → Kind → State → Seen → Type 0
+Begun b k x s = items_read (step x b) ≡ items_read x ++ (item s.depth k ∷ [])
 
 abbrev none : Seen → Option Seen
 none s = None
 
--- r of what is kept: another Next, the depth and the operands by `more` and `plus`
-abbrev then_seen : Next → (ℕ → ℕ) → (ℕ → ℕ) → Seen → Option Seen
-then_seen next more plus s = Some (seen_as next (more s.depth) (plus s.operands))
+abbrev then_seen : Next → Seen → Option Seen
+then_seen next s = Some (seen_as next s.depth)
 
-abbrev as_it_is : ℕ → ℕ
-as_it_is n = n
-
-abbrev one_more : ℕ → ℕ
-one_more n = n + 1
-
-module _ (b : ℕ) (s : Seen) where
-  pub letter_wanted : wants s.next ≡ true → After Class.Letter b s (Some (seen_as Next.SignOrSpace s.depth (s.operands + 1)))
-  unfolding step wanted seen_of next_had operands
-  letter_wanted v = after_want Class.Letter b s (then_seen Next.SignOrSpace as_it_is one_more) v (λ k fs. rw k refl) (omega arith)
-
-  pub letter_had : wants s.next ≡ false → After Class.Letter b s None
+module _ (b : ℕ) (s : Seen) (m : Notes) where
+  pub letter_had : wants s.next ≡ false → After Class.Letter b s m None m
   unfolding step had seen_of
-  letter_had v = after_have Class.Letter b s none v (λ k t l fs. rw k refl) tt
+  letter_had v = breaks Class.Letter b s (λ x k e. by_have (Then b none) (λ t l fs. rw k refl) x s e v) m
 
-  pub digit_wanted : wants s.next ≡ true
-      → After Class.Digit b s (Some (seen_as (Next.SignSpaceOrDigit (b - 48)) s.depth (s.operands + 1)))
-  unfolding step wanted seen_of next_had operands value
-  digit_wanted v =
-      after_want Class.Digit b s (then_seen (Next.SignSpaceOrDigit (b - 48)) as_it_is one_more) v (λ k fs. rw k refl) (omega arith)
+  pub opens_had : wants s.next ≡ false → After Class.Opens b s m None m
+  unfolding step had seen_of
+  opens_had v = breaks Class.Opens b s (λ x k e. by_have (Then b none) (λ t l fs. rw k refl) x s e v) m
 
-  pub opens_wanted : wants s.next ≡ true → After Class.Opens b s (Some (seen_as Next.OperandOrSpace (s.depth + 1) s.operands))
-  unfolding step wanted seen_of next_wanted depth operands_before
+  pub sign_wanted : (level : ℕ) → wants s.next ≡ true → After (Class.Sign level) b s m None m
+  unfolding step wanted seen_of
+  sign_wanted level v = breaks (Class.Sign level) b s (λ x k e. by_want (Then b none) (λ fs. rw k refl) x s e v) m
+
+  pub closes_wanted : wants s.next ≡ true → After Class.Closes b s m None m
+  unfolding step wanted seen_of
+  closes_wanted v = breaks Class.Closes b s (λ x k e. by_want (Then b none) (λ fs. rw k refl) x s e v) m
+
+  pub other : After Class.Other b s m None m
+  other = breaks Class.Other b s (λ x k e. ap seen_of (other_bad b k x) ∙ none_bad_seen) m
+
+  pub opens_wanted : wants s.next ≡ true → After Class.Opens b s m (Some (seen_as Next.OperandOrSpace (s.depth + 1))) m
+  unfolding step wanted seen_of next_wanted depth
   opens_wanted v =
-      after_want Class.Opens b s (then_seen Next.OperandOrSpace one_more as_it_is) v
-      (λ k fs. rw k (ap (λ n. Some (seen_as Next.OperandOrSpace n (operands_before fs))) (omega arith))) (omega arith)
+      goes_on Class.Opens b s _ m
+      (λ x k e.
+      by_want (Then b (λ z. Some (seen_as Next.OperandOrSpace (z.depth + 1))))
+      (λ fs. rw k (ap (λ n. Some (seen_as Next.OperandOrSpace n)) (omega arith))) x s e v)
+      (λ x k e. opens_items b k x) (omega arith)
 
-  pub opens_had : wants s.next ≡ false → After Class.Opens b s None
-  unfolding step had seen_of
-  opens_had v = after_have Class.Opens b s none v (λ k t l fs. rw k refl) tt
+module _ (b : ℕ) (s : Seen) (m m' : Notes) (l : length m'.places ≡ length m.places) where
+  pub letter_wanted : wants s.next ≡ true → More s m Kind.Letter m'
+      → After Class.Letter b s m (Some (seen_as Next.SignOrSpace s.depth)) m'
+  unfolding step wanted seen_of next_had items_read items_of
+  letter_wanted v n =
+      begins Class.Letter b s _ m m' Kind.Letter (λ x k e. by_want (Then b (then_seen Next.SignOrSpace)) (λ fs. rw k refl) x s e v)
+      (λ x k e. by_want (Begun b Kind.Letter) (λ fs. rw k refl) x s e v) n (omega arith) l
 
-  pub sign_wanted : (level : ℕ) → wants s.next ≡ true → After (Class.Sign level) b s None
-  unfolding step wanted seen_of
-  sign_wanted level v = after_want (Class.Sign level) b s none v (λ k fs. rw k refl) tt
+  pub digit_wanted : wants s.next ≡ true → More s m Kind.Number m'
+      → After Class.Digit b s m (Some (seen_as (Next.SignSpaceOrDigit (b - 48)) s.depth)) m'
+  unfolding step wanted seen_of next_had value items_read items_of
+  digit_wanted v n =
+      begins Class.Digit b s _ m m' Kind.Number
+      (λ x k e. by_want (Then b (then_seen (Next.SignSpaceOrDigit (b - 48)))) (λ fs. rw k refl) x s e v)
+      (λ x k e. by_want (Begun b Kind.Number) (λ fs. rw k refl) x s e v) n (omega arith) l
 
-  pub closes_wanted : wants s.next ≡ true → After Class.Closes b s None
-  unfolding step wanted seen_of
-  closes_wanted v = after_want Class.Closes b s none v (λ k fs. rw k refl) tt
+  -- what waits takes its operand
+  pub sign_had : (level : ℕ) → wants s.next ≡ false → More s m (Kind.Operator level) m'
+      → After (Class.Sign level) b s m (Some (seen_as Next.OperandOrSpace s.depth)) m'
+  unfolding step had sign seen_of next_wanted depth items_read
+  sign_had level v n =
+      begins (Class.Sign level) b s _ m m' (Kind.Operator level)
+      (λ x k e. by_have (Then b (then_seen Next.OperandOrSpace)) (λ t l fs. rw k (ap (λ d. Some (seen_as Next.OperandOrSpace d)) (kept level t fs).brackets)) x s e v)
+      (λ x k e. by_have (Begun b (Kind.Operator level)) (λ t l fs. rw k (sign_items level b (spaced? l) t fs k)) x s e v) n (omega arith) l
 
-  none_bad_seen : seen_of bad ≡ None
-  unfolding seen_of
-  none_bad_seen = refl
+-- A closing bracket --------------------------------------------------------------------------------------------------------------
 
-  pub other : After Class.Other b s None
-  other = record { seen = λ w k e. ap seen_of (reading_after w b ∙ other_bad b k (reading w)) ∙ none_bad_seen; counted = tt }
+-- what is kept of a bracket that is closed, by its depth
+abbrev close_seen : ℕ → Option Seen
+close_seen zero = None
+close_seen (suc d) = Some (seen_as Next.SignOrSpace d)
 
--- A sign, a closing bracket: what waits takes its operand ---------------------------------------------------------------------------
-
--- what is reduced keeps its open brackets and its operands
-pub record Kept (r : Behind) (t : Tree) (fs : List Frame) : Type 0 where
-  pub depth : depth r.frames ≡ depth fs
-  pub operands : operands_before r.frames + operands r.tree ≡ operands_before fs + operands t
-
-kept_left : (k : ℕ) (t l : Tree) (s : Bool) (b : ℕ) (s' : Bool) (fs : List Frame) → Dec (k ≤ level b)
-    → Kept (reduce k (operator l s b s' t) fs) (operator l s b s' t) fs → Kept (reduce k t (left l s b s' ∷ fs)) t (left l s b s' ∷ fs)
-unfolding depth operands_before operands
-kept_left k t l s b s' fs (yes m) e = rw (reduce_take k t l s b s' fs m) (record { depth = e.depth; operands = omega (arith, e.operands) })
-kept_left k t l s b s' fs (no m) e = rw (reduce_stop k t l s b s' fs (omega arith)) (record { depth = refl; operands = refl })
-
-pub kept : (k : ℕ) (t : Tree) (fs : List Frame) → Kept (reduce k t fs) t fs
-unfolding reduce
-kept k t [] = record { depth = refl; operands = refl }
-kept k t (opened s ∷ fs) = record { depth = refl; operands = refl }
-kept k t (left l s b s' ∷ fs) = kept_left k t l s b s' fs (dec_le k (level b)) (kept k (operator l s b s' t) fs)
-
-module _ (b : ℕ) (s : Seen) where
-  pub sign_had : (level : ℕ) → wants s.next ≡ false → After (Class.Sign level) b s (Some (seen_as Next.OperandOrSpace s.depth s.operands))
-  unfolding step had sign seen_of next_wanted depth operands_before
-  sign_had level v =
-      after_have (Class.Sign level) b s (then_seen Next.OperandOrSpace as_it_is as_it_is) v
-      (λ k t l fs. let q = kept level t fs in rw k (λ i. Some (seen_as Next.OperandOrSpace (q.depth i) (q.operands i)))) (omega arith)
-
--- what is kept of a bracket that is closed, by its depth and its operands
-abbrev close_seen : ℕ → ℕ → Option Seen
-close_seen zero n = None
-close_seen (suc d) n = Some (seen_as Next.SignOrSpace d n)
-
-closed_seen : (s : Bool) (t : Tree) (fs : List Frame)
-    → seen_of (close s (reduce 0 t fs)) ≡ close_seen (depth fs) (operands_before fs + operands t)
-unfolding seen_of close reduce depth operands_before operands next_had
+closed_seen : (s : Bool) (t : Tree) (fs : List Frame) → seen_of (close s (reduce 0 t fs)) ≡ close_seen (depth fs)
+unfolding seen_of close reduce depth next_had
 closed_seen s t [] = refl
 closed_seen s t (opened s' ∷ fs) = refl
 closed_seen s t (left l s' b s'' ∷ fs) =
-    ap (λ (r : Behind). seen_of (close s r)) (reduce_take 0 t l s' b s'' fs (omega arith))
-    ∙ closed_seen s (operator l s' b s'' t) fs ∙ ap (close_seen (depth fs)) (omega arith)
+    ap (λ (r : Behind). seen_of (close s r)) (reduce_take 0 t l s' b s'' fs (omega arith)) ∙ closed_seen s (operator l s' b s'' t) fs
 
 module _ (b : ℕ) (s : Seen) where
-  had_closes : wants s.next ≡ false → (w : List ℕ) → class b ≡ Class.Closes → seen_of (reading w) ≡ Some s
-      → seen_of (reading (w ++ (b ∷ []))) ≡ close_seen s.depth s.operands
+  closes_seen : wants s.next ≡ false → Keeps Class.Closes b s (close_seen s.depth)
   unfolding step had
-  had_closes v w k e =
-      ap seen_of (reading_after w b)
-      ∙ by_have (Then b (λ z. close_seen z.depth z.operands)) (λ t l fs. rw k (closed_seen (spaced? l) t fs)) (reading w) s e v
+  closes_seen v x k e = by_have (Then b (λ z. close_seen z.depth)) (λ t l fs. rw k (closed_seen (spaced? l) t fs)) x s e v
 
-  pub closes_none : wants s.next ≡ false → s.depth ≡ 0 → After Class.Closes b s None
-  closes_none v z = record { seen = λ w k e. had_closes v w k e ∙ ap (λ d. close_seen d s.operands) z; counted = tt }
+  pub closes_none : wants s.next ≡ false → s.depth ≡ 0 → (m : Notes) → After Class.Closes b s m None m
+  closes_none v z m = breaks Class.Closes b s (λ x k e. closes_seen v x k e ∙ ap close_seen z) m
 
-  pub closes_had : wants s.next ≡ false → (s.depth ≡ 0 → ⊥)
-      → After Class.Closes b s (Some (seen_as Next.SignOrSpace (s.depth - 1) s.operands))
-  closes_had v z =
-      record {
-        seen = λ w k e. had_closes v w k e ∙ ap (λ d. close_seen d s.operands) d_is;
-        counted = omega arith;
-      }
+  pub closes_had : wants s.next ≡ false → (s.depth ≡ 0 → ⊥) → (m : Notes)
+      → After Class.Closes b s m (Some (seen_as Next.SignOrSpace (s.depth - 1))) m
+  closes_had v z m =
+      goes_on Class.Closes b s _ m (λ x k e. closes_seen v x k e ∙ ap close_seen d_is) (λ x k e. closes_items b k x) (omega arith)
     where
       d_is : s.depth ≡ suc (s.depth - 1)
       d_is = omega arith
 
 -- A space, by what may stand next ----------------------------------------------------------------------------------------------------
 
-abbrev space_seen : Next → ℕ → ℕ → Option Seen
-space_seen Next.Operand d n = None
-space_seen Next.OperandOrSpace d n = Some (seen_as Next.Operand d n)
-space_seen Next.Sign d n = None
-space_seen Next.SignOrSpace d n = Some (seen_as Next.Sign d n)
-space_seen (Next.SignSpaceOrDigit v) d n = Some (seen_as Next.Sign d n)
+abbrev space_seen : Next → ℕ → Option Seen
+space_seen Next.Operand d = None
+space_seen Next.OperandOrSpace d = Some (seen_as Next.Operand d)
+space_seen Next.Sign d = None
+space_seen Next.SignOrSpace d = Some (seen_as Next.Sign d)
+space_seen (Next.SignSpaceOrDigit v) d = Some (seen_as Next.Sign d)
 
-space_wanted : (fs : List Frame) → seen_of (space_before fs) ≡ space_seen (next_wanted fs) (depth fs) (operands_before fs)
-unfolding seen_of space_before next_wanted depth operands_before
+space_wanted : (fs : List Frame) → seen_of (space_before fs) ≡ space_seen (next_wanted fs) (depth fs)
+unfolding seen_of space_before next_wanted depth
 space_wanted [] = refl
 space_wanted (opened true ∷ fs) = refl
 space_wanted (opened false ∷ fs) = refl
 space_wanted (left l s b true ∷ fs) = refl
 space_wanted (left l s b false ∷ fs) = refl
 
-space_had : (t : Tree) (l : Tail) (fs : List Frame)
-    → seen_of (space_behind t l fs) ≡ space_seen (next_had t l) (depth fs) (operands_before fs + operands t)
+space_had : (t : Tree) (l : Tail) (fs : List Frame) → seen_of (space_behind t l fs) ≡ space_seen (next_had t l) (depth fs)
 unfolding seen_of space_behind next_had
 space_had t digits fs = refl
 space_had t closed fs = refl
 space_had t spaced fs = refl
 
 space_then : (b : ℕ) → class b ≡ Class.Space → (x : State) (s : Seen) → seen_of x ≡ Some s
-    → seen_of (step x b) ≡ space_seen s.next s.depth s.operands
+    → seen_of (step x b) ≡ space_seen s.next s.depth
 unfolding seen_of step wanted had
 space_then b k bad s e = clash s e
-space_then b k (want fs) s e = rw k (subst (λ z. seen_of (space_before fs) ≡ space_seen z.next z.depth z.operands) (some_same _ s e) (space_wanted fs))
-space_then b k (have t l fs) s e = rw k (subst (λ z. seen_of (space_behind t l fs) ≡ space_seen z.next z.depth z.operands) (some_same _ s e) (space_had t l fs))
+space_then b k (want fs) s e = rw k (subst (λ z. seen_of (space_before fs) ≡ space_seen z.next z.depth) (some_same _ s e) (space_wanted fs))
+space_then b k (have t l fs) s e = rw k (subst (λ z. seen_of (space_behind t l fs) ≡ space_seen z.next z.depth) (some_same _ s e) (space_had t l fs))
 
-space_counted : (n : Next) (d m : ℕ) → IfSome (space_seen n d m) (λ s'. s'.depth + s'.operands ≤ d + m + 1)
-space_counted Next.Operand d m = tt
-space_counted Next.OperandOrSpace d m = omega arith
-space_counted Next.Sign d m = tt
-space_counted Next.SignOrSpace d m = omega arith
-space_counted (Next.SignSpaceOrDigit v) d m = omega arith
+space_deeper : (n : Next) (d : ℕ) → IfSome (space_seen n d) (λ s'. s'.depth ≤ d + 1)
+space_deeper Next.Operand d = tt
+space_deeper Next.OperandOrSpace d = omega arith
+space_deeper Next.Sign d = tt
+space_deeper Next.SignOrSpace d = omega arith
+space_deeper (Next.SignSpaceOrDigit v) d = omega arith
 
-pub space : (b : ℕ) (s : Seen) (n : Next) → s.next ≡ n → After Class.Space b s (space_seen n s.depth s.operands)
-space b s n p =
-    rw (← p) (record {
-      seen = λ w k e. ap seen_of (reading_after w b) ∙ space_then b k (reading w) s e;
-      counted = space_counted s.next s.depth s.operands;
-    })
+pub space : (b : ℕ) (s : Seen) (m : Notes) (n : Next) → s.next ≡ n → After Class.Space b s m (space_seen n s.depth) m
+space b s m n p =
+    rw (← p)
+    (goes_on Class.Space b s _ m (λ x k e. space_then b k x s e) (λ x k e. space_items b k x) (space_deeper s.next s.depth))
 
 -- A digit behind an operand ---------------------------------------------------------------------------------------------------------
 
-abbrev longer_seen : ℕ → ℕ → ℕ → ℕ → Option Seen
-longer_seen v d e n =
-    if eqb v 0 then None else if ltb (10 * v + d) 256 then Some (seen_as (Next.SignSpaceOrDigit (10 * v + d)) e n) else None
+abbrev longer_seen : ℕ → ℕ → ℕ → Option Seen
+longer_seen v d e =
+    if eqb v 0 then None else if ltb (10 * v + d) 256 then Some (seen_as (Next.SignSpaceOrDigit (10 * v + d)) e) else None
 
-abbrev digit_seen : Next → ℕ → ℕ → ℕ → Option Seen
-digit_seen Next.Operand d e n = None
-digit_seen Next.OperandOrSpace d e n = None
-digit_seen Next.Sign d e n = None
-digit_seen Next.SignOrSpace d e n = None
-digit_seen (Next.SignSpaceOrDigit v) d e n = longer_seen v d e n
+abbrev digit_seen : Next → ℕ → ℕ → Option Seen
+digit_seen Next.Operand d e = None
+digit_seen Next.OperandOrSpace d e = None
+digit_seen Next.Sign d e = None
+digit_seen Next.SignOrSpace d e = None
+digit_seen (Next.SignSpaceOrDigit v) d e = longer_seen v d e
 
 pick_seen : (x y : Bool) (a : State) (r : Option Seen) → seen_of a ≡ r
     → seen_of (if x then bad else if y then a else bad) ≡ (if x then None else if y then r else None)
@@ -262,59 +282,54 @@ pick_seen true y a r e = refl
 pick_seen false true a r e = e
 pick_seen false false a r e = refl
 
-longer_had : (t : Tree) (d : ℕ) (fs : List Frame)
-    → seen_of (longer (value t) d fs) ≡ longer_seen (value t) d (depth fs) (operands_before fs + operands t)
-unfolding longer value operands seen_of
+longer_had : (t : Tree) (d : ℕ) (fs : List Frame) → seen_of (longer (value t) d fs) ≡ longer_seen (value t) d (depth fs)
+unfolding longer value seen_of
 longer_had (letter x) d fs = refl
 longer_had (number v) d fs = pick_seen (eqb v 0) (ltb (10 * v + d) 256) (have (number (10 * v + d)) digits fs) _ (unfold next_had in refl)
 longer_had (bracket s t s') d fs = refl
 longer_had (operator l s x s' r) d fs = refl
 
-digit_had : (t : Tree) (l : Tail) (d : ℕ) (fs : List Frame)
-    → seen_of (digit_behind t l d fs) ≡ digit_seen (next_had t l) d (depth fs) (operands_before fs + operands t)
+digit_had : (t : Tree) (l : Tail) (d : ℕ) (fs : List Frame) → seen_of (digit_behind t l d fs) ≡ digit_seen (next_had t l) d (depth fs)
 unfolding digit_behind next_had seen_of
 digit_had t digits d fs = longer_had t d fs
 digit_had t closed d fs = refl
 digit_had t spaced d fs = refl
 
 module _ (b : ℕ) (s : Seen) where
-  digit_then : wants s.next ≡ false → (w : List ℕ) → class b ≡ Class.Digit → seen_of (reading w) ≡ Some s
-      → seen_of (reading (w ++ (b ∷ []))) ≡ digit_seen s.next (b - 48) s.depth s.operands
+  digit_then : wants s.next ≡ false → Keeps Class.Digit b s (digit_seen s.next (b - 48) s.depth)
   unfolding step had
-  digit_then v w k e =
-      ap seen_of (reading_after w b)
-      ∙ by_have (Then b (λ z. digit_seen z.next (b - 48) z.depth z.operands)) (λ t l fs. rw k (digit_had t l (b - 48) fs)) (reading w) s e v
+  digit_then v x k e =
+      by_have (Then b (λ z. digit_seen z.next (b - 48) z.depth)) (λ t l fs. rw k (digit_had t l (b - 48) fs)) x s e v
 
-  pub digit_none : (n : Next) → s.next ≡ n → wants n ≡ false → digit_seen n (b - 48) s.depth s.operands ≡ None
-      → After Class.Digit b s None
-  digit_none n p v q =
-      record {
-        seen = λ w k e. digit_then (ap wants p ∙ v) w k e ∙ ap (λ z. digit_seen z (b - 48) s.depth s.operands) p ∙ q;
-        counted = tt;
-      }
+  pub digit_none : (n : Next) → s.next ≡ n → wants n ≡ false → digit_seen n (b - 48) s.depth ≡ None → (m : Notes)
+      → After Class.Digit b s m None m
+  digit_none n p v q m =
+      breaks Class.Digit b s (λ x k e. digit_then (ap wants p ∙ v) x k e ∙ ap (λ z. digit_seen z (b - 48) s.depth) p ∙ q) m
 
-  pub longer_none : (v : ℕ) → s.next ≡ Next.SignSpaceOrDigit v → (v ≡ 0) ⊎ (256 ≤ 10 * v + (b - 48)) → After Class.Digit b s None
+  pub longer_none : (v : ℕ) → s.next ≡ Next.SignSpaceOrDigit v → (v ≡ 0) ⊎ (256 ≤ 10 * v + (b - 48)) → (m : Notes)
+      → After Class.Digit b s m None m
   longer_none v p (inl z) = digit_none (Next.SignSpaceOrDigit v) p refl (rw (eq-eqb v 0 z) refl)
   longer_none v p (inr z) = digit_none (Next.SignSpaceOrDigit v) p refl (by (dec_lt 0 v))
     where
-      by : Dec (0 < v) → digit_seen (Next.SignSpaceOrDigit v) (b - 48) s.depth s.operands ≡ None
+      by : Dec (0 < v) → digit_seen (Next.SignSpaceOrDigit v) (b - 48) s.depth ≡ None
       by (no e) = rw (eq-eqb v 0 (omega arith)) refl
       by (yes e) = rw (ne_eqb v 0 (λ h. omega arith), le-ltb (10 * v + (b - 48)) 256 z) refl
 
-  pub longer_some : (v n : ℕ) → s.next ≡ Next.SignSpaceOrDigit v → (v ≡ 0 → ⊥) → n ≡ 10 * v + (b - 48) → n < 256
-      → After Class.Digit b s (Some (seen_as (Next.SignSpaceOrDigit n) s.depth s.operands))
-  longer_some v n p z is l =
-      rw is (record {
-        seen = λ w k e.
-            digit_then (ap wants p) w k e ∙ ap (λ m. digit_seen m (b - 48) s.depth s.operands) p
-            ∙ rw (ne_eqb v 0 z, lt-ltb (10 * v + (b - 48)) 256 (omega arith)) refl;
-        counted = omega arith;
-      })
+  pub longer_some : (v n : ℕ) → s.next ≡ Next.SignSpaceOrDigit v → (v ≡ 0 → ⊥) → n ≡ 10 * v + (b - 48) → n < 256 → (m : Notes)
+      → After Class.Digit b s m (Some (seen_as (Next.SignSpaceOrDigit n) s.depth)) m
+  longer_some v n p z is l m =
+      rw is
+      (goes_on Class.Digit b s _ m
+      (λ x k e.
+      digit_then (ap wants p) x k e ∙ ap (λ y. digit_seen y (b - 48) s.depth) p
+      ∙ rw (ne_eqb v 0 z, lt-ltb (10 * v + (b - 48)) 256 (omega arith)) refl)
+      (λ x k e. by_have (λ x z. SameItems x (step x b)) (λ t l fs. digit_items b k t l fs) x s e (ap wants p)) (omega arith))
 
 -- a byte of the class c is a byte of its class
-pub of_class : (b : ℕ) (s : Seen) (r : Option Seen) (c : Class) → c ≡ class b → After c b s r → After (class b) b s r
-of_class b s r c e a = rw (← e) a
+pub of_class : (b : ℕ) (s : Seen) (m : Notes) (r : Option Seen) (m' : Notes) (c : Class) → c ≡ class b → After c b s m r m'
+    → After (class b) b s m r m'
+of_class b s m r m' c e a = rw (← e) a
 
-pub start_small : (s : Seen) → seen_of (reading []) ≡ Some s → s.depth + s.operands ≤ 0
-unfolding run seen_of next_wanted depth operands_before
-start_small s e = rw (← some_same _ s e) (omega arith)
+pub start_flat : (s : Seen) → seen_of (reading []) ≡ Some s → s.depth ≤ 0
+unfolding run seen_of next_wanted depth
+start_flat s e = rw (← some_same _ s e) (omega arith)

@@ -38,15 +38,10 @@ module _ (e : Expr) (before y : List ℕ) (r q : ℕ) (w : Wrote (expr_line e) (
       simp (length-append, length-drop) (omega (arith, m, length-take-le r before (omega arith)))
 
   pub line_more : (v : Operand) (k k' : Writer) → k.written ≡ r → k'.written ≡ r + q → k'.lines ≡ k.lines + 1 → k'.last ≡ v
-      → k'.depth ≡ k.depth
-      → k'.in_number ≡ k.in_number → k'.waiting ≡ k.waiting → r + q ≤ length before
-      → LineMore e v k k' before (take r before ++ (y ++ drop (length before - r) (drop r before)))
-  line_more v k k' p n l t d i a h =
+      → r + q ≤ length before → LineMore e v k k' before (take r before ++ (y ++ drop (length before - r) (drop r before)))
+  line_more v k k' p n l t h =
       record {
         last = t;
-        depth = d;
-        in_number = i;
-        waiting = a;
         lines = l;
         size = size_more h;
         stand = λ entry es s. stand_more entry es k k' p n l s;

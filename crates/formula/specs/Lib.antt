@@ -5,5 +5,7 @@ pub mod Converted
 pub mod Language
 pub mod OnASheet
 pub mod LineFront
+pub mod Items
 pub mod Seen
+pub mod Progress
 pub mod Written

@@ -1,17 +1,30 @@
-// The first pass: is it a formula, and has it few enough lines? It writes nothing.
-ghost use Rattle.std.specs.Prelude.{◌≡◌, ◌≤◌, length};
+// The first pass: is it a formula, and has it few enough lines? It writes nothing, and notes what the second pass goes by.
+ghost use Rattle.std.specs.Prelude.{◌≡◌, ◌≤◌, IfOk, Some, length, take};
+ghost use Rattle.formula.specs.declared.items.Item.{Item};
 ghost use Rattle.formula.specs.Converted.{answer_number, judged, outcome_of};
+ghost use Rattle.formula.specs.Formula.{Tree};
+ghost use Rattle.formula.specs.Items.{items_of};
+ghost use Rattle.formula.specs.Parse.{parse};
 
+use crate::items::Item;
 use crate::refusal::Refusal;
 use crate::seen::Seen;
 
-pub fn decide(formula: &[u8]) -> Result<(), Refusal>
-    requires { length formula.now ≤ 16384 }
-    ensures { answer_number (outcome_of result) ≡ answer_number (judged formula.now) }
+// The result is how many items the formula has.
+pub fn decide(formula: &[u8], places: &mut [Item]) -> Result<usize, Refusal>
+    requires short { length formula.now ≤ 16384 }
+    requires places { length places.old ≡ 129 }
+    ensures number { answer_number (outcome_of result) ≡ answer_number (judged formula.now) }
+    ensures noted { IfOk result (λ n. (t : Tree) → parse formula.now ≡ Some t → take n places.new ≡ items_of 0 t) }
+    ensures few { IfOk result (λ n. n ≤ 128) }
+    ensures size { length places.new ≡ length places.old }
 {
     let mut seen = Seen::new();
+    let mut count = 0;
     for b in formula {
-        seen = seen.after(*b).ok_or(Refusal::NoFormula)?;
+        seen = seen
+            .after(*b, places, &mut count)
+            .ok_or(Refusal::NoFormula)?;
     }
-    seen.end()
+    seen.end(count)
 }

@@ -7,10 +7,12 @@ ghost use Rattle.formula.specs.Language.{Language};
 ghost use Rattle.formula.specs.OnASheet.{OnASheet};
 
 use crate::decide::decide;
+use crate::items::{Item, Kind, PLACES};
 use crate::refusal::Refusal;
 use crate::writer::write;
 
-pub mod decide; // decide.rt: the first pass, which only decides
+pub mod decide; // decide.rt: the first pass, which decides
+pub mod items; // items.rt: what the first pass notes for the second
 pub mod line; // line.rt: one line
 pub mod refusal; // refusal.rt: why a formula is turned back
 pub mod seen; // seen.rt: what the first pass keeps of what it has read
@@ -31,6 +33,10 @@ pub fn convert(formula: &[u8], out: &mut [u8]) -> Result<usize, Refusal>
     if formula.len() > 16384 {
         return Err(Refusal::LongFormula);
     }
-    decide(formula)?;
-    Ok(write(formula, out))
+    let mut places = [Item {
+        depth: 0,
+        kind: Kind::Letter,
+    }; PLACES];
+    let count = decide(formula, &mut places)?;
+    Ok(write(&places[..count], out))
 }

@@ -1,12 +1,15 @@
-// What the first pass keeps of the bytes that it has read.
-ghost use Rattle.std.specs.Prelude.{◌≡◌, ℕ, [], ◌+◌, ◌^◌, ◌<◌, ◌≤◌, List, Some};
+// What the first pass keeps of the bytes that it has read, and what each of them lets it note.
+ghost use Rattle.std.specs.Prelude.{◌≡◌, ℕ, [], ◌+◌, ◌^◌, ◌<◌, ◌≤◌, IfOk, List, Some, length};
 ghost use Rattle.formula.specs.declared.seen.Next.{Next};
 ghost use Rattle.formula.specs.declared.token.Class.{Class};
+ghost use Rattle.formula.specs.declared.items.Item.{Item};
 ghost use Rattle.formula.specs.Converted.{answer_number, judged, outcome_of};
+ghost use Rattle.formula.specs.Items.{Noted, Notes, items_read, notes};
 ghost use Rattle.formula.specs.Parse.{reading};
-ghost use Rattle.formula.specs.Seen.{After, may_end, seen_of, wants};
+ghost use Rattle.formula.specs.Seen.{After, More, may_end, seen_as, seen_of, wants};
 ghost use Rattle.formula.specs.Tokens.{class};
 
+use crate::items::{Item, Kind, note};
 use crate::refusal::Refusal;
 use crate::token::{Class, class_of};
 
@@ -25,8 +28,7 @@ pub enum Next {
 pub struct Seen {
     pub next: Next,
     // Brackets that are open.
-    pub depth: usize,
-    pub operands: usize,
+    pub depth: u16,
 }
 
 impl Seen {
@@ -36,7 +38,6 @@ impl Seen {
         Seen {
             next: Next::Operand,
             depth: 0,
-            operands: 0,
         }
     }
 
@@ -54,58 +55,70 @@ impl Seen {
         matches!(self.next, Next::SignOrSpace | Next::SignSpaceOrDigit(_))
     }
 
+    // As it is, but for what may stand next.
+    fn then(self, next: Next) -> Seen
+        ensures { result ≡ seen_as next self.depth }
+    {
+        Seen {
+            next,
+            depth: self.depth,
+        }
+    }
+
+    // What begins here is noted.
+    fn note(self, kind: Kind, places: &mut [Item], count: &mut usize)
+        ensures size { length places.new ≡ length places.old }
+        ensures more { More self (notes places.old count.old) kind (notes places.new count.new) }
+    {
+        let item = Item {
+            depth: self.depth,
+            kind,
+        };
+        note(places, count, item);
+    }
+
     // A letter.
-    fn letter(self) -> Option<Seen>
-        requires { self.operands + 1 < 2 ^ 64 }
-        ensures { (b : ℕ) → After Class.Letter b self result }
+    fn letter(self, places: &mut [Item], count: &mut usize) -> Option<Seen>
+        ensures { (b : ℕ) → After Class.Letter b self (notes places.old count.old) result (notes places.new count.new) }
     {
         if !self.wants() {
             return None;
         }
-        Some(Seen {
-            next: Next::SignOrSpace,
-            depth: self.depth,
-            operands: self.operands + 1,
-        })
+        self.note(Kind::Letter, places, count);
+        Some(self.then(Next::SignOrSpace))
     }
 
     // One more digit d of a number v: none behind a 0, and none that takes it above 255.
     fn longer(self, v: u8, b: u8) -> Option<Seen>
         requires number { self.next ≡ Next.SignSpaceOrDigit v }
         requires digit { (48 ≤ b) × (b < 58) }
-        ensures { After Class.Digit b self result }
+        ensures { (m : Notes) → After Class.Digit b self m result m }
     {
         let n = u32::from(v) * 10 + u32::from(b - b'0');
         match u8::try_from(n) {
-            Ok(value) if v != 0 => Some(Seen {
-                next: Next::SignSpaceOrDigit(value),
-                depth: self.depth,
-                operands: self.operands,
-            }),
+            Ok(value) if v != 0 => Some(self.then(Next::SignSpaceOrDigit(value))),
             _ => None,
         }
     }
 
     // A digit, of a new number or of one that goes on.
-    fn digit(self, b: u8) -> Option<Seen>
-        requires room { self.operands + 1 < 2 ^ 64 }
-        requires digit { (48 ≤ b) × (b < 58) }
-        ensures { After Class.Digit b self result }
+    fn digit(self, b: u8, places: &mut [Item], count: &mut usize) -> Option<Seen>
+        requires { (48 ≤ b) × (b < 58) }
+        ensures { After Class.Digit b self (notes places.old count.old) result (notes places.new count.new) }
     {
         match self.next {
-            Next::Operand | Next::OperandOrSpace => Some(Seen {
-                next: Next::SignSpaceOrDigit(b - b'0'),
-                depth: self.depth,
-                operands: self.operands + 1,
-            }),
+            Next::Operand | Next::OperandOrSpace => {
+                self.note(Kind::Number, places, count);
+                Some(self.then(Next::SignSpaceOrDigit(b - b'0')))
+            }
             Next::SignSpaceOrDigit(v) => self.longer(v, b),
             Next::Sign | Next::SignOrSpace => None,
         }
     }
 
     fn opens(self) -> Option<Seen>
-        requires { self.depth + 1 < 2 ^ 64 }
-        ensures { (b : ℕ) → After Class.Opens b self result }
+        requires { self.depth + 1 < 2 ^ 16 }
+        ensures { (b : ℕ) (m : Notes) → After Class.Opens b self m result m }
     {
         if !self.wants() {
             return None;
@@ -113,12 +126,11 @@ impl Seen {
         Some(Seen {
             next: Next::OperandOrSpace,
             depth: self.depth + 1,
-            operands: self.operands,
         })
     }
 
     fn closes(self) -> Option<Seen>
-        ensures { (b : ℕ) → After Class.Closes b self result }
+        ensures { (b : ℕ) (m : Notes) → After Class.Closes b self m result m }
     {
         if self.wants() || self.depth == 0 {
             return None;
@@ -126,64 +138,57 @@ impl Seen {
         Some(Seen {
             next: Next::SignOrSpace,
             depth: self.depth - 1,
-            operands: self.operands,
         })
     }
 
-    fn sign(self) -> Option<Seen>
-        ensures { (level b : ℕ) → After (Class.Sign level) b self result }
+    fn sign(self, level: u8, places: &mut [Item], count: &mut usize) -> Option<Seen>
+        ensures { (b : ℕ) → After (Class.Sign level) b self (notes places.old count.old) result (notes places.new count.new) }
     {
         if self.wants() {
             return None;
         }
-        Some(Seen {
-            next: Next::OperandOrSpace,
-            depth: self.depth,
-            operands: self.operands,
-        })
+        self.note(Kind::Operator(level), places, count);
+        Some(self.then(Next::OperandOrSpace))
     }
 
     fn space(self) -> Option<Seen>
-        ensures { (b : ℕ) → After Class.Space b self result }
+        ensures { (b : ℕ) (m : Notes) → After Class.Space b self m result m }
     {
-        let next = match self.next {
-            Next::OperandOrSpace => Next::Operand,
-            Next::SignOrSpace | Next::SignSpaceOrDigit(_) => Next::Sign,
-            Next::Operand | Next::Sign => return None,
-        };
-        Some(Seen {
-            next,
-            depth: self.depth,
-            operands: self.operands,
-        })
+        match self.next {
+            Next::OperandOrSpace => Some(self.then(Next::Operand)),
+            Next::SignOrSpace | Next::SignSpaceOrDigit(_) => Some(self.then(Next::Sign)),
+            Next::Operand | Next::Sign => None,
+        }
     }
 
     // One byte more; none if no formula begins with what was read.
-    pub fn after(self, b: u8) -> Option<Seen>
-        requires { self.depth + self.operands + 1 < 2 ^ 64 }
-        ensures { After (class b) b self result }
+    pub fn after(self, b: u8, places: &mut [Item], count: &mut usize) -> Option<Seen>
+        requires { self.depth + 1 < 2 ^ 16 }
+        ensures { After (class b) b self (notes places.old count.old) result (notes places.new count.new) }
     {
         match class_of(b) {
-            Class::Sign(_) => self.sign(),
+            Class::Sign(level) => self.sign(level, places, count),
             Class::Space => self.space(),
             Class::Opens => self.opens(),
             Class::Closes => self.closes(),
-            Class::Letter => self.letter(),
-            Class::Digit => self.digit(b),
+            Class::Letter => self.letter(places, count),
+            Class::Digit => self.digit(b, places, count),
             Class::Other => None,
         }
     }
 
-    // What the formula that ends here comes to.
-    pub fn end(self) -> Result<(), Refusal>
-        ensures { (w : List ℕ) → seen_of (reading w) ≡ Some self → answer_number (outcome_of result) ≡ answer_number (judged w) }
+    // What the formula that ends here comes to, if so many items of it were noted in 129 places.
+    pub fn end(self, count: usize) -> Result<usize, Refusal>
+        ensures number { (w : List ℕ) (places : List Item) → length places ≡ 129 → Noted (notes places count) (items_read (reading w)) → seen_of (reading w) ≡ Some self
+            → answer_number (outcome_of result) ≡ answer_number (judged w) }
+        ensures count { IfOk result (λ n. (n ≡ count) × (n ≤ 128)) }
     {
         if self.depth > 0 || !self.may_end() {
             return Err(Refusal::NoFormula);
         }
-        if self.operands > 64 {
+        if count > 128 {
             return Err(Refusal::ManyLines);
         }
-        Ok(())
+        Ok(count)
     }
 }

@@ -1,14 +1,14 @@
-// The second pass: a formula is read once more, and its lines are written as soon as they are complete.
-ghost use Rattle.std.specs.Prelude.{◌≡◌, ◌+◌, ◌-◌, ◌*◌, ◌≤◌, ◌<◌, [], ℕ, false, List, length, if◌then◌else◌};
-ghost use Rattle.plan.specs.Sheet.{Expr, done};
-ghost use Rattle.formula.specs.Converted.{answer_number, judged, text};
+// The second pass: it goes over what the first one noted, and writes each line as soon as it is complete.
+ghost use Rattle.std.specs.Prelude.{◌≡◌, ◌+◌, ◌-◌, ◌*◌, ◌≤◌, [], ℕ, List, length, if◌then◌else◌};
+ghost use Rattle.formula.specs.declared.items.Kind.{Kind};
+ghost use Rattle.formula.specs.Converted.{text};
 ghost use Rattle.formula.specs.Formula.{column, literal};
-ghost use Rattle.formula.specs.Parse.{reading};
-ghost use Rattle.formula.specs.declared.token.Class.{Class};
+ghost use Rattle.formula.specs.Items.{as_operator, operators};
+ghost use Rattle.formula.specs.Progress.{lines_of, operand_of, start};
 ghost use Rattle.writing.specs.Wrote.{Wrote};
 
+use crate::items::{Item, Kind};
 use crate::line::{put_operand, put_operator};
-use crate::token::{Class, class_of};
 
 // What an operator's line has to say of an operand: the index of its line, its S and its L.
 #[derive(Clone, Copy)]
@@ -26,45 +26,35 @@ pub struct Waiting {
     pub left: Operand,
 }
 
-// Where the second pass stands. A formula of 64 operands has 63 operators.
+const NO_OPERAND: Operand = Operand {
+    index: 0,
+    scalar: false,
+    length_preserving: false,
+};
+
+// Where the second pass stands. The operators that wait stand apart, in as many places as a formula has operators at the most.
 #[derive(Drop)]
 pub struct Writer {
-    // Brackets that are open.
-    pub depth: u32,
-    // Was a digit read last?
-    pub in_number: bool,
-    // The operand that was read last.
+    // The operand that came last.
     pub last: Operand,
-    // The operators that wait, the last one last.
-    pub waiting: [Waiting; 63],
+    // How many operators wait, the last one last.
     pub count: usize,
     // How many lines were written, and how long they are.
     pub lines: u8,
     pub written: usize,
-    pub ghost sized: { length waiting ≡ 63 },
-    pub ghost few: { count ≤ 63 },
     pub ghost short: { written ≤ 18 * lines },
 }
 
 impl Writer {
-    ghost use Rattle.formula.specs.Written.{Holds, Joins, LineMore, Room, Settles, Takes, TakesOne, operand_of};
+    ghost use Rattle.formula.specs.Written.{Holds, Joins, LineMore, Settles, Takes, Waits};
 
     fn new() -> Writer
-        ensures { (entry : List ℕ) → Holds entry (reading []) result entry }
+        ensures held { (waiting : List Waiting) (entry : List ℕ) → Holds entry start result waiting entry }
+        ensures count { result.count ≡ 0 }
+        ensures lines { result.lines ≡ 0 }
     {
-        let none = Operand {
-            index: 0,
-            scalar: false,
-            length_preserving: false,
-        };
         Writer {
-            depth: 0,
-            in_number: false,
-            last: none,
-            waiting: [Waiting {
-                weight: 0,
-                left: none,
-            }; 63],
+            last: NO_OPERAND,
             count: 0,
             lines: 0,
             written: 0,
@@ -73,7 +63,7 @@ impl Writer {
 
     // The line of an operand, a letter or a number.
     fn operand(&mut self, out: &mut [u8], number: bool)
-        requires room { self.old.lines ≤ 126 }
+        requires room { self.old.lines ≤ 127 }
         requires in_bounds { 16384 ≤ length out.old }
         ensures line { LineMore (if number then literal else column) (operand_of self.old.lines number) self.old self.new out.old out.new }
         ensures count { self.new.count ≡ self.old.count }
@@ -88,15 +78,16 @@ impl Writer {
     }
 
     // The operator that waits last has its right operand: its line.
-    fn join(&mut self, out: &mut [u8])
-        requires some { 1 ≤ self.old.count }
-        requires room { self.old.lines ≤ 126 }
+    #[inline(always)]
+    fn join(&mut self, waiting: &[Waiting], out: &mut [u8])
+        requires some { (1 ≤ self.old.count) × (self.old.count ≤ length waiting.now) }
+        requires room { self.old.lines ≤ 127 }
         requires in_bounds { 16384 ≤ length out.old }
-        ensures line { Joins self.old self.new out.old out.new }
+        ensures line { Joins waiting.now self.old self.new out.old out.new }
         ensures count { self.new.count ≡ self.old.count - 1 }
     {
         self.count -= 1;
-        let left = self.waiting[self.count].left;
+        let left = waiting[self.count].left;
         let right = self.last;
         let scalar = left.scalar & right.scalar;
         let length_preserving = left.length_preserving | right.length_preserving;
@@ -115,114 +106,68 @@ impl Writer {
         self.lines += 1;
     }
 
-    // The operators that wait with this weight or more have their right operands, the last one first. Inlined: so a byte of 64 operands
-    // without spaces takes 9.2 ns for 9.7, and one of 8,191 brackets 4.1 for 4.9.
+    // The operators that wait with this weight or more have their right operands, the last one first. Inlined, as `join` is: so a byte of 64
+    // operands takes 7.8 ns for 9.9 without spaces, and 9.3 for 10.4 as generated.
     #[inline(always)]
-    fn settle(&mut self, out: &mut [u8], weight: u32)
-        requires room { self.old.lines + self.old.count ≤ 127 }
+    fn settle(&mut self, waiting: &[Waiting], out: &mut [u8], weight: u32)
+        requires few { self.old.count ≤ length waiting.now }
+        requires room { self.old.lines + self.old.count ≤ 128 }
         requires in_bounds { 16384 ≤ length out.old }
-        ensures { Settles weight self.old self.new out.old out.new }
+        ensures { Settles weight waiting.now self.old self.new out.old out.new }
     {
-        while self.count > 0 && self.waiting[self.count - 1].weight >= weight {
-            self.join(out);
+        while self.count > 0 && waiting[self.count - 1].weight >= weight {
+            self.join(waiting, out);
         }
     }
 
     // An operator: those that bind before it are complete, and it waits.
-    fn sign(&mut self, out: &mut [u8], level: u8)
-        requires depth { self.old.depth < 16384 }
-        requires room { self.old.lines + self.old.count ≤ 127 }
-        requires few { self.old.count ≤ 62 }
+    fn operator(&mut self, waiting: &mut [Waiting], out: &mut [u8], weight: u32)
+        requires few { self.old.count + 1 ≤ length waiting.old }
+        requires room { self.old.lines + self.old.count ≤ 128 }
         requires in_bounds { 16384 ≤ length out.old }
-        ensures { TakesOne (Class.Sign level) self.old self.new out.old out.new }
+        ensures { Waits weight self.old waiting.old self.new waiting.new out.old out.new }
     {
-        let weight = 5 * self.depth + u32::from(level);
-        self.settle(out, weight);
-        self.waiting[self.count] = Waiting {
+        self.settle(waiting, out, weight);
+        waiting[self.count] = Waiting {
             weight,
             left: self.last,
         };
         self.count += 1;
-        self.in_number = false;
     }
 
-    fn opens(&mut self)
-        requires { self.old.depth < 16384 }
-        ensures { (now : List ℕ) → TakesOne Class.Opens self.old self.new now now }
-    {
-        self.depth += 1;
-        self.in_number = false;
-    }
-
-    // All operators within the bracket are complete.
-    fn closes(&mut self, out: &mut [u8])
-        requires depth { self.old.depth < 16384 }
+    // The next operand or operator.
+    fn take(&mut self, waiting: &mut [Waiting], out: &mut [u8], item: Item)
+        requires few { self.old.count + as_operator item.kind ≤ length waiting.old }
         requires room { self.old.lines + self.old.count ≤ 127 }
         requires in_bounds { 16384 ≤ length out.old }
-        ensures { TakesOne Class.Closes self.old self.new out.old out.new }
+        ensures { Takes item self.old waiting.old self.new waiting.new out.old out.new }
     {
-        self.settle(out, 5 * self.depth);
-        // In a formula a bracket is open here; where none is, nothing is said of what was read.
-        self.depth = self.depth.saturating_sub(1);
-        self.in_number = false;
-    }
-
-    fn letter(&mut self, out: &mut [u8])
-        requires room { self.old.lines ≤ 126 }
-        requires in_bounds { 16384 ≤ length out.old }
-        ensures { TakesOne Class.Letter self.old self.new out.old out.new }
-    {
-        self.operand(out, false);
-        self.in_number = false;
-    }
-
-    // The first digit of a number; the others change nothing.
-    fn digit(&mut self, out: &mut [u8])
-        requires room { self.old.in_number ≡ false → self.old.lines ≤ 126 }
-        requires in_bounds { 16384 ≤ length out.old }
-        ensures { TakesOne Class.Digit self.old self.new out.old out.new }
-    {
-        if !self.in_number {
-            self.operand(out, true);
-            self.in_number = true;
-        }
-    }
-
-    fn space(&mut self)
-        ensures { (now : List ℕ) → TakesOne Class.Space self.old self.new now now }
-    {
-        self.in_number = false;
-    }
-
-    // The next byte. A formula has none that is no token.
-    fn take(&mut self, out: &mut [u8], b: u8)
-        requires room { Room b self.old }
-        requires in_bounds { 16384 ≤ length out.old }
-        ensures { Takes b self.old self.new out.old out.new }
-    {
-        match class_of(b) {
-            Class::Sign(level) => self.sign(out, level),
-            Class::Space => self.space(),
-            Class::Opens => self.opens(),
-            Class::Closes => self.closes(out),
-            Class::Letter => self.letter(out),
-            Class::Digit => self.digit(out),
-            Class::Other => {}
+        match item.kind {
+            Kind::Letter => self.operand(out, false),
+            Kind::Number => self.operand(out, true),
+            Kind::Operator(level) => {
+                let weight = 5 * u32::from(item.depth) + u32::from(level);
+                self.operator(waiting, out, weight)
+            }
         }
     }
 }
 
-// The lines of a formula that the first pass lets through.
-pub fn write(formula: &[u8], out: &mut [u8]) -> usize
-    requires accepted { answer_number (judged formula.now) ≡ 0 }
-    requires short { length formula.now ≤ 16384 }
+// The lines of the items. Those of a formula of 64 operands have 63 operators, which may all wait.
+pub fn write(items: &[Item], out: &mut [u8]) -> usize
+    requires short { length items.now ≤ 128 }
+    requires few { operators items.now ≤ 63 }
     requires in_bounds { 16384 ≤ length out.old }
-    ensures { (es : List Expr) → judged formula.now ≡ done es → Wrote (text es) out.old out.new result }
+    ensures { Wrote (text (lines_of items.now)) out.old out.new result }
 {
     let mut writer = Writer::new();
-    for b in formula {
-        writer.take(out, *b);
+    let mut waiting = [Waiting {
+        weight: 0,
+        left: NO_OPERAND,
+    }; 63];
+    for item in items {
+        writer.take(&mut waiting, out, *item);
     }
-    writer.settle(out, 0);
+    writer.settle(&waiting, out, 0);
     writer.written
 }

@@ -5,7 +5,9 @@ use Rattle.formula.proofs.Seeing.{longer_none, longer_some}
 use Rattle.formula.proofs.seen.Seen.longer.Goals as goal
 
 pub returns-in-Ok : goal.returns-in-Ok
-returns-in-Ok c = let k = c.in-Ok.ensures in longer_some _ _ _ c.in-Ok.value c.requires.number (search rules) (omega (arith, k.1)) (omega (arith, k.0, k.1))
+returns-in-Ok c =
+    let k = c.in-Ok.ensures in
+    rw c.then.ensures (longer_some _ _ _ _ c.requires.number (search rules) (omega (arith, k.1)) (omega (arith, k.0, k.1)))
 
 pub returns-in_default : goal.returns-in_default
 returns-in_default c = longer_none _ _ _ c.requires.number (inl (search rules))
