@@ -13,14 +13,15 @@ use Rattle.formula.specs.declared.refusal.Refusal.{Refusal}
 use Rattle.formula.specs.declared.seen.Seen.{Seen}
 use Rattle.formula.specs.Tokens.{class}
 use Rattle.formula.specs.Formula.{Tree}
-use Rattle.formula.specs.Parse.{Frame, Tail, State, behind, reduce, whole, ended, parse, run, reading}
+use Rattle.formula.specs.Parse.{Frame, Tail, State, behind, reduce, whole, ended, parse, step, run, reading}
 use Tail.{digits, closed, spaced}
 use State.{bad, want, have}
 use Rattle.formula.specs.Items.{items_of, depth, items_before, items_read, Notes, notes, Noted}
-use Rattle.formula.specs.Seen.{seen_of, After}
+use Rattle.formula.specs.Seen.{seen_of, After, with_begun}
 use Rattle.formula.proofs.Constructors.{clash, some_same}
-use Rattle.formula.proofs.Noting.{kept, noted_same, noted_none}
-use Rattle.formula.proofs.Seeing.{start_flat}
+use Rattle.formula.proofs.Kept.{kept}
+use Rattle.formula.proofs.Noting.{noted_same, noted_none, step_noted}
+use Rattle.formula.proofs.Seeing.{reading_after, none_seen, start_flat}
 
 -- s is kept of the first i bytes of w, and m is noted
 pub record SoFar (w : List ℕ) (i : ℕ) (s : Seen) (m : Notes) : Type 0 where
@@ -37,19 +38,28 @@ at_first w s ps e = record { seen = e; noted = subst (Noted (notes ps 0)) no_ite
 
 -- one byte further
 module _ (w : List ℕ) (i : ℕ) (s s' : Seen) (m m' : Notes) (r : Option Seen) (l : i < length w) where
-  pub one_further : After (class (get_or w i 0)) (get_or w i 0) s m r m' → r ≡ Some s' → SoFar w i s m → SoFar w (i + 1) s' m'
-  one_further a e f =
+  abbrev b : ℕ
+  b = get_or w i 0
+
+  pub one_further : After (class b) b s r → m' ≡ with_begun (class b) s m → r ≡ Some s' → SoFar w i s m → SoFar w (i + 1) s' m'
+  one_further a n e f =
       rw (add-one i) (record {
-        seen = ap (λ v. seen_of (reading v)) further ∙ a.seen (take i w) refl f.seen ∙ e;
-        noted = subst (λ v. Noted m' (items_read (reading v))) (sym further) (of_some _ e (a.noted (take i w) refl f.seen f.noted));
-        flat = omega (arith, f.flat, of_some _ e a.deeper);
+        seen = ap (λ v. seen_of (reading v)) further ∙ goes;
+        noted = rw n (subst (λ x. Noted (with_begun (class b) s m) (items_read x)) (sym one_more) (step_noted (reading (take i w)) b s m f.seen f.noted good));
+        flat = omega (arith, f.flat, subst (λ o. IfSome o (λ z. z.depth ≤ s.depth + 1)) e a.deeper);
       })
     where
-      further : take (suc i) w ≡ take i w ++ (get_or w i 0 ∷ [])
+      further : take (suc i) w ≡ take i w ++ (b ∷ [])
       further = take-suc w i 0 l
 
-      of_some : (P : Seen → Type 0) → r ≡ Some s' → IfSome r P → P s'
-      of_some P e p = subst (λ o. IfSome o P) e p
+      one_more : reading (take (suc i) w) ≡ step (reading (take i w)) b
+      one_more = ap reading further ∙ reading_after (take i w) b
+
+      goes : seen_of (reading (take i w ++ (b ∷ []))) ≡ Some s'
+      goes = a.seen (take i w) refl f.seen ∙ e
+
+      good : step (reading (take i w)) b ≡ bad → ⊥
+      good z = clash s' (sym (none_seen _ (reading_after (take i w) b ∙ z)) ∙ goes)
 
 -- The end ---------------------------------------------------------------------------------------------------------------------------
 

@@ -5,8 +5,9 @@ pub mod Reading
 pub mod Sound
 pub mod Complete
 pub mod Derivations
-pub mod Noting
+pub mod Kept
 pub mod Seeing
+pub mod Noting
 pub mod Deciding
 pub mod Verdicts
 pub mod LineTexts

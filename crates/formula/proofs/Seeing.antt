@@ -8,13 +8,10 @@ use Prim.Native.Nat.{ℕ, zero, suc, ◌+◌, ◌*◌, ◌-◌, ◌<◌, ◌≤�
 use native.Mathlib.Omega.{arith}
 use native.Mathlib.Decide.{dec_lt}
 use lib.Dec.{eqb, ltb}
-use lib.ListN.{length}
 use borrow.Author.Tests.{lt-ltb, le-ltb, eq-eqb, ne_eqb}
 use Rattle.formula.specs.declared.token.Class.{Class}
 use Rattle.formula.specs.declared.seen.Next.{Next}
 use Rattle.formula.specs.declared.seen.Seen.{Seen}
-use Rattle.formula.specs.declared.items.Kind.{Kind}
-use Rattle.formula.specs.declared.items.Item.{Item}
 use Rattle.formula.specs.Tokens.{level, class}
 use Rattle.formula.specs.Formula.{Tree}
 use Tree.{letter, number, bracket, operator}
@@ -22,11 +19,11 @@ use Rattle.formula.specs.Parse.{Frame, Tail, State, Behind, spaced?, reduce, spa
 use Frame.{opened, left}
 use Tail.{digits, closed, spaced}
 use State.{bad, want, have}
-use Rattle.formula.specs.Items.{item, items_of, depth, items_read, Notes, Noted}
-use Rattle.formula.specs.Seen.{next_wanted, next_had, wants, seen_as, seen_of, More, After}
+use Rattle.formula.specs.Items.{depth}
+use Rattle.formula.specs.Seen.{next_wanted, next_had, wants, seen_as, seen_of, After}
 use Rattle.formula.proofs.Constructors.{clash, some_same, true_false}
 use Rattle.formula.proofs.Reading.{reduce_take, run_append, other_bad}
-use Rattle.formula.proofs.Noting.{kept, sign_items, SameItems, space_items, opens_items, closes_items, digit_items}
+use Rattle.formula.proofs.Kept.{kept}
 
 pub wanted_wants : (fs : List Frame) → wants (next_wanted fs) ≡ true
 unfolding next_wanted
@@ -36,16 +33,16 @@ wanted_wants (opened false ∷ fs) = refl
 wanted_wants (left l s b true ∷ fs) = refl
 wanted_wants (left l s b false ∷ fs) = refl
 
-had_wants : (t : Tree) (e : Tail) → wants (next_had t e) ≡ false
+pub had_wants : (t : Tree) (e : Tail) → wants (next_had t e) ≡ false
 unfolding next_had
 had_wants t digits = refl
 had_wants t closed = refl
 had_wants t spaced = refl
 
-abbrev wanted_seen : List Frame → Seen
+abbrev pub wanted_seen : List Frame → Seen
 wanted_seen fs = seen_as (next_wanted fs) (depth fs)
 
-abbrev had_seen : Tree → Tail → List Frame → Seen
+abbrev pub had_seen : Tree → Tail → List Frame → Seen
 had_seen t e fs = seen_as (next_had t e) (depth fs)
 
 module _ (P : State → Seen → Type 0) where
@@ -73,52 +70,21 @@ none_bad_seen : seen_of bad ≡ None
 unfolding seen_of
 none_bad_seen = refl
 
+pub none_seen : (x : State) → x ≡ bad → seen_of x ≡ None
+none_seen x z = ap seen_of z ∙ none_bad_seen
+
 pub none_bad : (x : State) → seen_of x ≡ None → x ≡ bad
 unfolding seen_of
 none_bad bad e = refl
 none_bad (want fs) e = clash _ (sym e)
 none_bad (have t l fs) e = clash _ (sym e)
 
-if_good : (P : Type 0) (o : Option Seen) (x : State) → seen_of x ≡ o → ((x ≡ bad → ⊥) → P) → IfSome o (λ _. P)
-if_good P None x e f = tt
-if_good P (Some s) x e f = f (λ z. clash s (sym none_bad_seen ∙ ap seen_of (sym z) ∙ e))
-
 -- o is kept with a byte b of the class c, where s was kept
-abbrev pub Keeps : Class → ℕ → Seen → Option Seen → Type 0
+abbrev Keeps : Class → ℕ → Seen → Option Seen → Type 0
 Keeps c b s o = (x : State) → class b ≡ c → seen_of x ≡ Some s → seen_of (step x b) ≡ o
 
--- from a byte's step of a state to what is kept and noted with it
-module _ (c : Class) (b : ℕ) (s : Seen) (o : Option Seen) where
-  abbrev Deeper : Type 0
-  Deeper = IfSome o (λ s'. s'.depth ≤ s.depth + 1)
-
-  after_by : (m m' : Notes) (f : List Item → List Item) → Keeps c b s o
-      → ((x : State) → class b ≡ c → seen_of x ≡ Some s → (step x b ≡ bad → ⊥) → items_read (step x b) ≡ f (items_read x))
-      → ((xs : List Item) → Noted m xs → Noted m' (f xs)) → Deeper → length m'.places ≡ length m.places → After c b s m o m'
-  after_by m m' f p q n d l =
-      record {
-        seen = λ w k e. ap seen_of (reading_after w b) ∙ p (reading w) k e;
-        noted = λ w k e h.
-            if_good _ o (step (reading w) b) (p (reading w) k e)
-            (λ g. subst (Noted m') (sym (q (reading w) k e g) ∙ ap items_read (sym (reading_after w b))) (n (items_read (reading w)) h));
-        deeper = d;
-        size = l;
-      }
-
-  -- nothing begins with it
-  goes_on : (m : Notes) → Keeps c b s o → ((x : State) → class b ≡ c → seen_of x ≡ Some s → SameItems x (step x b)) → Deeper → After c b s m o m
-  goes_on m p q d = after_by m m (λ xs. xs) p q (λ xs h. h) d refl
-
-  -- the item k begins with it
-  begins : (m m' : Notes) (k : Kind) → Keeps c b s o
-      → ((x : State) → class b ≡ c → seen_of x ≡ Some s → items_read (step x b) ≡ items_read x ++ (item s.depth k ∷ []))
-      → More s m k m' → Deeper → length m'.places ≡ length m.places → After c b s m o m'
-  begins m m' k p q n d l = after_by m m' (λ xs. xs ++ (item s.depth k ∷ [])) p (λ x h e _. q x h e) n d l
-
--- it is read to no formula's beginning
-breaks : (c : Class) (b : ℕ) (s : Seen) → Keeps c b s None → (m : Notes) → After c b s m None m
-breaks c b s p m =
-    goes_on c b s None m p (λ x k e g. absurd (g (none_bad (step x b) (p x k e)))) tt
+after_by : (c : Class) (b : ℕ) (s : Seen) (o : Option Seen) → Keeps c b s o → IfSome o (λ s'. s'.depth ≤ s.depth + 1) → After c b s o
+after_by c b s o p d = record { seen = λ w k e. ap seen_of (reading_after w b) ∙ p (reading w) k e; deeper = d }
 
 -- The classes ------------------------------------------------------------------------------------------------------------------
 
@@ -126,9 +92,15 @@ breaks c b s p m =
 abbrev Then : ℕ → (Seen → Option Seen) → State → Seen → Type 0
 Then b r x s = seen_of (step x b) ≡ r s
 
--- the state has the item k more
-abbrev Begun : ℕ → Kind → State → Seen → Type 0
-Begun b k x s = items_read (step x b) ≡ items_read x ++ (item s.depth k ∷ [])
+after_want : (c : Class) (b : ℕ) (s : Seen) (r : Seen → Option Seen) → wants s.next ≡ true
+    → (class b ≡ c → (fs : List Frame) → Then b r (want fs) (wanted_seen fs))
+    → IfSome (r s) (λ s'. s'.depth ≤ s.depth + 1) → After c b s (r s)
+after_want c b s r v p d = after_by c b s (r s) (λ x k e. by_want (Then b r) (p k) x s e v) d
+
+after_have : (c : Class) (b : ℕ) (s : Seen) (r : Seen → Option Seen) → wants s.next ≡ false
+    → (class b ≡ c → (t : Tree) (l : Tail) (fs : List Frame) → Then b r (have t l fs) (had_seen t l fs))
+    → IfSome (r s) (λ s'. s'.depth ≤ s.depth + 1) → After c b s (r s)
+after_have c b s r v p d = after_by c b s (r s) (λ x k e. by_have (Then b r) (p k) x s e v) d
 
 abbrev none : Seen → Option Seen
 none s = None
@@ -136,59 +108,46 @@ none s = None
 abbrev then_seen : Next → Seen → Option Seen
 then_seen next s = Some (seen_as next s.depth)
 
-module _ (b : ℕ) (s : Seen) (m : Notes) where
-  pub letter_had : wants s.next ≡ false → After Class.Letter b s m None m
+module _ (b : ℕ) (s : Seen) where
+  pub letter_wanted : wants s.next ≡ true → After Class.Letter b s (Some (seen_as Next.SignOrSpace s.depth))
+  unfolding step wanted seen_of next_had
+  letter_wanted v = after_want Class.Letter b s (then_seen Next.SignOrSpace) v (λ k fs. rw k refl) (omega arith)
+
+  pub letter_had : wants s.next ≡ false → After Class.Letter b s None
   unfolding step had seen_of
-  letter_had v = breaks Class.Letter b s (λ x k e. by_have (Then b none) (λ t l fs. rw k refl) x s e v) m
+  letter_had v = after_have Class.Letter b s none v (λ k t l fs. rw k refl) tt
 
-  pub opens_had : wants s.next ≡ false → After Class.Opens b s m None m
-  unfolding step had seen_of
-  opens_had v = breaks Class.Opens b s (λ x k e. by_have (Then b none) (λ t l fs. rw k refl) x s e v) m
+  pub digit_wanted : wants s.next ≡ true → After Class.Digit b s (Some (seen_as (Next.SignSpaceOrDigit (b - 48)) s.depth))
+  unfolding step wanted seen_of next_had value
+  digit_wanted v = after_want Class.Digit b s (then_seen (Next.SignSpaceOrDigit (b - 48))) v (λ k fs. rw k refl) (omega arith)
 
-  pub sign_wanted : (level : ℕ) → wants s.next ≡ true → After (Class.Sign level) b s m None m
-  unfolding step wanted seen_of
-  sign_wanted level v = breaks (Class.Sign level) b s (λ x k e. by_want (Then b none) (λ fs. rw k refl) x s e v) m
-
-  pub closes_wanted : wants s.next ≡ true → After Class.Closes b s m None m
-  unfolding step wanted seen_of
-  closes_wanted v = breaks Class.Closes b s (λ x k e. by_want (Then b none) (λ fs. rw k refl) x s e v) m
-
-  pub other : After Class.Other b s m None m
-  other = breaks Class.Other b s (λ x k e. ap seen_of (other_bad b k x) ∙ none_bad_seen) m
-
-  pub opens_wanted : wants s.next ≡ true → After Class.Opens b s m (Some (seen_as Next.OperandOrSpace (s.depth + 1))) m
+  pub opens_wanted : wants s.next ≡ true → After Class.Opens b s (Some (seen_as Next.OperandOrSpace (s.depth + 1)))
   unfolding step wanted seen_of next_wanted depth
   opens_wanted v =
-      goes_on Class.Opens b s _ m
-      (λ x k e.
-      by_want (Then b (λ z. Some (seen_as Next.OperandOrSpace (z.depth + 1))))
-      (λ fs. rw k (ap (λ n. Some (seen_as Next.OperandOrSpace n)) (omega arith))) x s e v)
-      (λ x k e. opens_items b k x) (omega arith)
+      after_want Class.Opens b s (λ z. Some (seen_as Next.OperandOrSpace (z.depth + 1))) v
+      (λ k fs. rw k (ap (λ n. Some (seen_as Next.OperandOrSpace n)) (omega arith))) (omega arith)
 
-module _ (b : ℕ) (s : Seen) (m m' : Notes) (l : length m'.places ≡ length m.places) where
-  pub letter_wanted : wants s.next ≡ true → More s m Kind.Letter m'
-      → After Class.Letter b s m (Some (seen_as Next.SignOrSpace s.depth)) m'
-  unfolding step wanted seen_of next_had items_read items_of
-  letter_wanted v n =
-      begins Class.Letter b s _ m m' Kind.Letter (λ x k e. by_want (Then b (then_seen Next.SignOrSpace)) (λ fs. rw k refl) x s e v)
-      (λ x k e. by_want (Begun b Kind.Letter) (λ fs. rw k refl) x s e v) n (omega arith) l
+  pub opens_had : wants s.next ≡ false → After Class.Opens b s None
+  unfolding step had seen_of
+  opens_had v = after_have Class.Opens b s none v (λ k t l fs. rw k refl) tt
 
-  pub digit_wanted : wants s.next ≡ true → More s m Kind.Number m'
-      → After Class.Digit b s m (Some (seen_as (Next.SignSpaceOrDigit (b - 48)) s.depth)) m'
-  unfolding step wanted seen_of next_had value items_read items_of
-  digit_wanted v n =
-      begins Class.Digit b s _ m m' Kind.Number
-      (λ x k e. by_want (Then b (then_seen (Next.SignSpaceOrDigit (b - 48)))) (λ fs. rw k refl) x s e v)
-      (λ x k e. by_want (Begun b Kind.Number) (λ fs. rw k refl) x s e v) n (omega arith) l
+  pub sign_wanted : (level : ℕ) → wants s.next ≡ true → After (Class.Sign level) b s None
+  unfolding step wanted seen_of
+  sign_wanted level v = after_want (Class.Sign level) b s none v (λ k fs. rw k refl) tt
 
   -- what waits takes its operand
-  pub sign_had : (level : ℕ) → wants s.next ≡ false → More s m (Kind.Operator level) m'
-      → After (Class.Sign level) b s m (Some (seen_as Next.OperandOrSpace s.depth)) m'
-  unfolding step had sign seen_of next_wanted depth items_read
-  sign_had level v n =
-      begins (Class.Sign level) b s _ m m' (Kind.Operator level)
-      (λ x k e. by_have (Then b (then_seen Next.OperandOrSpace)) (λ t l fs. rw k (ap (λ d. Some (seen_as Next.OperandOrSpace d)) (kept level t fs).brackets)) x s e v)
-      (λ x k e. by_have (Begun b (Kind.Operator level)) (λ t l fs. rw k (sign_items level b (spaced? l) t fs k)) x s e v) n (omega arith) l
+  pub sign_had : (level : ℕ) → wants s.next ≡ false → After (Class.Sign level) b s (Some (seen_as Next.OperandOrSpace s.depth))
+  unfolding step had sign seen_of next_wanted depth
+  sign_had level v =
+      after_have (Class.Sign level) b s (then_seen Next.OperandOrSpace) v
+      (λ k t l fs. rw k (ap (λ d. Some (seen_as Next.OperandOrSpace d)) (kept level t fs).brackets)) (omega arith)
+
+  pub closes_wanted : wants s.next ≡ true → After Class.Closes b s None
+  unfolding step wanted seen_of
+  closes_wanted v = after_want Class.Closes b s none v (λ k fs. rw k refl) tt
+
+  pub other : After Class.Other b s None
+  other = after_by Class.Other b s None (λ x k e. ap seen_of (other_bad b k x) ∙ none_bad_seen) tt
 
 -- A closing bracket --------------------------------------------------------------------------------------------------------------
 
@@ -209,13 +168,11 @@ module _ (b : ℕ) (s : Seen) where
   unfolding step had
   closes_seen v x k e = by_have (Then b (λ z. close_seen z.depth)) (λ t l fs. rw k (closed_seen (spaced? l) t fs)) x s e v
 
-  pub closes_none : wants s.next ≡ false → s.depth ≡ 0 → (m : Notes) → After Class.Closes b s m None m
-  closes_none v z m = breaks Class.Closes b s (λ x k e. closes_seen v x k e ∙ ap close_seen z) m
+  pub closes_none : wants s.next ≡ false → s.depth ≡ 0 → After Class.Closes b s None
+  closes_none v z = after_by Class.Closes b s None (λ x k e. closes_seen v x k e ∙ ap close_seen z) tt
 
-  pub closes_had : wants s.next ≡ false → (s.depth ≡ 0 → ⊥) → (m : Notes)
-      → After Class.Closes b s m (Some (seen_as Next.SignOrSpace (s.depth - 1))) m
-  closes_had v z m =
-      goes_on Class.Closes b s _ m (λ x k e. closes_seen v x k e ∙ ap close_seen d_is) (λ x k e. closes_items b k x) (omega arith)
+  pub closes_had : wants s.next ≡ false → (s.depth ≡ 0 → ⊥) → After Class.Closes b s (Some (seen_as Next.SignOrSpace (s.depth - 1)))
+  closes_had v z = after_by Class.Closes b s _ (λ x k e. closes_seen v x k e ∙ ap close_seen d_is) (omega arith)
     where
       d_is : s.depth ≡ suc (s.depth - 1)
       d_is = omega arith
@@ -257,10 +214,8 @@ space_deeper Next.Sign d = tt
 space_deeper Next.SignOrSpace d = omega arith
 space_deeper (Next.SignSpaceOrDigit v) d = omega arith
 
-pub space : (b : ℕ) (s : Seen) (m : Notes) (n : Next) → s.next ≡ n → After Class.Space b s m (space_seen n s.depth) m
-space b s m n p =
-    rw (← p)
-    (goes_on Class.Space b s _ m (λ x k e. space_then b k x s e) (λ x k e. space_items b k x) (space_deeper s.next s.depth))
+pub space : (b : ℕ) (s : Seen) (n : Next) → s.next ≡ n → After Class.Space b s (space_seen n s.depth)
+space b s n p = rw (← p) (after_by Class.Space b s _ (λ x k e. space_then b k x s e) (space_deeper s.next s.depth))
 
 -- A digit behind an operand ---------------------------------------------------------------------------------------------------------
 
@@ -301,13 +256,11 @@ module _ (b : ℕ) (s : Seen) where
   digit_then v x k e =
       by_have (Then b (λ z. digit_seen z.next (b - 48) z.depth)) (λ t l fs. rw k (digit_had t l (b - 48) fs)) x s e v
 
-  pub digit_none : (n : Next) → s.next ≡ n → wants n ≡ false → digit_seen n (b - 48) s.depth ≡ None → (m : Notes)
-      → After Class.Digit b s m None m
-  digit_none n p v q m =
-      breaks Class.Digit b s (λ x k e. digit_then (ap wants p ∙ v) x k e ∙ ap (λ z. digit_seen z (b - 48) s.depth) p ∙ q) m
+  pub digit_none : (n : Next) → s.next ≡ n → wants n ≡ false → digit_seen n (b - 48) s.depth ≡ None → After Class.Digit b s None
+  digit_none n p v q =
+      after_by Class.Digit b s None (λ x k e. digit_then (ap wants p ∙ v) x k e ∙ ap (λ z. digit_seen z (b - 48) s.depth) p ∙ q) tt
 
-  pub longer_none : (v : ℕ) → s.next ≡ Next.SignSpaceOrDigit v → (v ≡ 0) ⊎ (256 ≤ 10 * v + (b - 48)) → (m : Notes)
-      → After Class.Digit b s m None m
+  pub longer_none : (v : ℕ) → s.next ≡ Next.SignSpaceOrDigit v → (v ≡ 0) ⊎ (256 ≤ 10 * v + (b - 48)) → After Class.Digit b s None
   longer_none v p (inl z) = digit_none (Next.SignSpaceOrDigit v) p refl (rw (eq-eqb v 0 z) refl)
   longer_none v p (inr z) = digit_none (Next.SignSpaceOrDigit v) p refl (by (dec_lt 0 v))
     where
@@ -315,20 +268,19 @@ module _ (b : ℕ) (s : Seen) where
       by (no e) = rw (eq-eqb v 0 (omega arith)) refl
       by (yes e) = rw (ne_eqb v 0 (λ h. omega arith), le-ltb (10 * v + (b - 48)) 256 z) refl
 
-  pub longer_some : (v n : ℕ) → s.next ≡ Next.SignSpaceOrDigit v → (v ≡ 0 → ⊥) → n ≡ 10 * v + (b - 48) → n < 256 → (m : Notes)
-      → After Class.Digit b s m (Some (seen_as (Next.SignSpaceOrDigit n) s.depth)) m
-  longer_some v n p z is l m =
+  pub longer_some : (v n : ℕ) → s.next ≡ Next.SignSpaceOrDigit v → (v ≡ 0 → ⊥) → n ≡ 10 * v + (b - 48) → n < 256
+      → After Class.Digit b s (Some (seen_as (Next.SignSpaceOrDigit n) s.depth))
+  longer_some v n p z is l =
       rw is
-      (goes_on Class.Digit b s _ m
+      (after_by Class.Digit b s _
       (λ x k e.
       digit_then (ap wants p) x k e ∙ ap (λ y. digit_seen y (b - 48) s.depth) p
       ∙ rw (ne_eqb v 0 z, lt-ltb (10 * v + (b - 48)) 256 (omega arith)) refl)
-      (λ x k e. by_have (λ x z. SameItems x (step x b)) (λ t l fs. digit_items b k t l fs) x s e (ap wants p)) (omega arith))
+      (omega arith))
 
 -- a byte of the class c is a byte of its class
-pub of_class : (b : ℕ) (s : Seen) (m : Notes) (r : Option Seen) (m' : Notes) (c : Class) → c ≡ class b → After c b s m r m'
-    → After (class b) b s m r m'
-of_class b s m r m' c e a = rw (← e) a
+pub of_class : (b : ℕ) (s : Seen) (r : Option Seen) (c : Class) → c ≡ class b → After c b s r → After (class b) b s r
+of_class b s r c e a = rw (← e) a
 
 pub start_flat : (s : Seen) → seen_of (reading []) ≡ Some s → s.depth ≤ 0
 unfolding run seen_of next_wanted depth

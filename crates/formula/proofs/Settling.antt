@@ -98,7 +98,7 @@ operand_comes : (d : Bool) (w : ℕ) (p : Progress) → settled w (with_operand 
 operand_comes d w p =
     ap (λ i. settled w (progress (operand_of i d) p.waiting (p.lines ++ ((if d then literal else column) ∷ [])))) (omega arith)
 
-module _ (w k d : ℕ) (l : Tree) (s : Bool) (b : ℕ) (s' : Bool) (r : Tree) (p : Progress) where
+module _ (w d : ℕ) (l : Tree) (s : Bool) (b : ℕ) (s' : Bool) (r : Tree) (p : Progress) where
   abbrev v : ℕ
   v = weight d (level b)
 
@@ -120,7 +120,7 @@ comes w k d (bracket s t s') p f h l g =
     comes w 0 (suc d) t p f (omega arith) (omega arith) (lighter (weight d k) (weight (suc d) 0) p.waiting (omega arith) g)
 comes w k d (operator l s b s' r) p f h lw g =
     let lighter' = lighter (weight d k) (weight d (level b)) p.waiting (omega (arith, f.0)) g in
-    operator_comes w k d l s b s' r p (omega (arith, f.0)) lighter'
+    operator_comes w d l s b s' r p (omega (arith, f.0)) lighter'
     (comes (weight d (level b)) (level b) d l p f.2 (omega (arith, f.1)) (omega arith) lighter')
     (comes w (suc (level b)) d r (waits (weight d (level b)) (with_tree l p)) f.3 (omega (arith, f.1)) (omega (arith, f.0)) (omega arith))
 

@@ -28,7 +28,8 @@ use Rattle.formula.specs.Converted.{a_formula, within_limit, judged, answer_numb
 use Rattle.formula.specs.Items.{item, items_of, depth, items_before, items_read, Noted, notes}
 use Rattle.formula.specs.Seen.{next_wanted, next_had, wants, may_end, seen_of}
 use Rattle.formula.proofs.FormulaLines.{own_last}
-use Rattle.formula.proofs.Noting.{joined_items, noted_least, noted_all}
+use Rattle.formula.proofs.Kept.{joined_items}
+use Rattle.formula.proofs.Noting.{noted_least, noted_all}
 use Rattle.formula.proofs.Reading.{reduce_take, run_append}
 use Rattle.formula.proofs.Constructors.{clash, some_same, true_false}
 use Rattle.formula.proofs.Seeing.{wanted_wants, none_bad}

@@ -1,6 +1,6 @@
 -- The operands and operators of a formula in the order of their bytes, each with the brackets that are open where it stands: what the first
 -- pass notes.
-use Rattle.std.specs.Prelude.{◌≡◌, ℕ, suc, ◌+◌, ◌≤◌, List, [], ◌∷◌, ◌++◌, length, take}
+use Rattle.std.specs.Prelude.{◌≡◌, ℕ, suc, ◌+◌, ◌≤◌, List, [], ◌∷◌, ◌++◌, ltb, length, take, set, if◌then◌else◌}
 use Rattle.formula.specs.declared.items.Kind.{Kind}
 use Rattle.formula.specs.declared.items.Item.{Item}
 use Rattle.formula.specs.Tokens.{level}
@@ -56,6 +56,10 @@ pub record Notes : Type 0 where
 
 abbrev pub notes : List Item → ℕ → Notes
 notes ps n = record { places = ps; count = n }
+
+-- with an item x more, if a place is left
+unfoldable pub with_item : Item → Notes → Notes
+with_item x m = if ltb m.count (length m.places) then notes (set m.places m.count x) (m.count + 1) else m
 
 -- the items xs stand in the places, as many of them as there are places
 pub record Noted (m : Notes) (xs : List Item) : Type 0 where

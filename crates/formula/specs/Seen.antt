@@ -1,14 +1,13 @@
--- What the first pass keeps of what was read: what may stand next, and how many brackets are open.
-use Rattle.std.specs.Prelude.{◌≡◌, ℕ, ◌+◌, ◌≤◌, Bool, true, false, List, [], ◌∷◌, ◌++◌, Option, None, Some, IfSome, length}
+-- What the first pass keeps of what was read, what may stand next and how many brackets are open; and what a byte lets it note.
+use Rattle.std.specs.Prelude.{◌≡◌, ℕ, ◌+◌, ◌≤◌, Bool, true, false, List, [], ◌∷◌, ◌++◌, Option, None, Some, IfSome, if◌then◌else◌}
 use Rattle.formula.specs.declared.token.Class.{Class}
 use Rattle.formula.specs.declared.items.Kind.{Kind}
-use Rattle.formula.specs.declared.items.Item.{Item}
 use Rattle.formula.specs.declared.seen.Next.{Next}
 use Rattle.formula.specs.declared.seen.Seen.{Seen}
 use Rattle.formula.specs.Tokens.{class}
 use Rattle.formula.specs.Formula.{Tree}
 use Rattle.formula.specs.Parse.{Frame, Tail, State, value, reading}
-use Rattle.formula.specs.Items.{item, depth, items_read, Notes, Noted}
+use Rattle.formula.specs.Items.{item, depth, Notes, with_item}
 
 -- where an operand is wanted: a space may stand behind a bracket or a sign, and none at the very beginning
 unfoldable pub next_wanted : List Frame → Next
@@ -47,15 +46,17 @@ seen_of State.bad = None
 seen_of (State.want fs) = Some (seen_as (next_wanted fs) (depth fs))
 seen_of (State.have t e fs) = Some (seen_as (next_had t e) (depth fs))
 
--- what is noted has one item more, that begins where s is kept
-abbrev pub More : Seen → Notes → Kind → Notes → Type 0
-More s m k m' = (xs : List Item) → Noted m xs → Noted m' (xs ++ (item s.depth k ∷ []))
-
--- Where s is kept of the bytes read, r is kept of them and a byte b of the class c. Where their items are noted in m, those with that byte
--- are noted in m', if it goes on. Such a byte opens at most one bracket
-pub record After (c : Class) (b : ℕ) (s : Seen) (m : Notes) (r : Option Seen) (m' : Notes) : Type 0 where
+-- Where s is kept of the bytes read, r is kept of them and a byte b of the class c. Such a byte opens at most one bracket
+pub record After (c : Class) (b : ℕ) (s : Seen) (r : Option Seen) : Type 0 where
   pub seen : (w : List ℕ) → class b ≡ c → seen_of (reading w) ≡ Some s → seen_of (reading (w ++ (b ∷ []))) ≡ r
-  pub noted : (w : List ℕ) → class b ≡ c → seen_of (reading w) ≡ Some s → Noted m (items_read (reading w))
-      → IfSome r (λ _. Noted m' (items_read (reading (w ++ (b ∷ [])))))
   pub deeper : IfSome r (λ s'. s'.depth ≤ s.depth + 1)
-  pub size : length m'.places ≡ length m.places
+
+-- what is noted with a byte of the class c, where s was kept: an operand begins where one is wanted, and an operator where none is
+unfoldable pub with_begun : Class → Seen → Notes → Notes
+with_begun (Class.Sign k) s m = if wants s.next then m else with_item (item s.depth (Kind.Operator k)) m
+with_begun Class.Space s m = m
+with_begun Class.Opens s m = m
+with_begun Class.Closes s m = m
+with_begun Class.Letter s m = if wants s.next then with_item (item s.depth Kind.Letter) m else m
+with_begun Class.Digit s m = if wants s.next then with_item (item s.depth Kind.Number) m else m
+with_begun Class.Other s m = m

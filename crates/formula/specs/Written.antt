@@ -53,18 +53,18 @@ pub record Settles (w : ℕ) (ws : List Waiting) (k k' : Writer) (before now : L
   pub size : length now ≡ length before
   pub holds : (entry : List ℕ) (p : Progress) → Holds entry p k ws before → Holds entry (settled w p) k' ws now
 
--- So they have, and one operator more waits
-pub record Waits (w : ℕ) (k : Writer) (ws : List Waiting) (k' : Writer) (ws' : List Waiting) (before now : List ℕ) : Type 0 where
-  pub more : k'.count ≤ k.count + 1
+-- One item more was taken, by which p comes to f p; n operators more may wait
+pub record Moves (n : ℕ) (f : Progress → Progress) (k : Writer) (ws : List Waiting) (k' : Writer) (ws' : List Waiting) (before now : List ℕ) : Type 0 where
+  pub more : k'.count ≤ k.count + n
   pub load : k'.lines + k'.count ≡ k.lines + k.count + 1
   pub places : length ws' ≡ length ws
   pub size : length now ≡ length before
-  pub holds : (entry : List ℕ) (p : Progress) → Holds entry p k ws before → Holds entry (waits w (settled w p)) k' ws' now
+  pub holds : (entry : List ℕ) (p : Progress) → Holds entry p k ws before → Holds entry (f p) k' ws' now
 
--- An operand or an operator x more
-pub record Takes (x : Item) (k : Writer) (ws : List Waiting) (k' : Writer) (ws' : List Waiting) (before now : List ℕ) : Type 0 where
-  pub more : k'.count ≤ k.count + as_operator x.kind
-  pub load : k'.lines + k'.count ≡ k.lines + k.count + 1
-  pub places : length ws' ≡ length ws
-  pub size : length now ≡ length before
-  pub holds : (entry : List ℕ) (p : Progress) → Holds entry p k ws before → Holds entry (taken x p) k' ws' now
+-- those that wait with weight w or more have got their right operands, and an operator of that weight waits
+abbrev pub Waits : ℕ → Writer → List Waiting → Writer → List Waiting → List ℕ → List ℕ → Type 0
+Waits w = Moves 1 (λ p. waits w (settled w p))
+
+-- an operand or an operator x
+abbrev pub Takes : Item → Writer → List Waiting → Writer → List Waiting → List ℕ → List ℕ → Type 0
+Takes x = Moves (as_operator x.kind) (taken x)

@@ -10,7 +10,8 @@ use crate::items::Item;
 use crate::refusal::Refusal;
 use crate::seen::Seen;
 
-// The result is how many items the formula has.
+// The result is how many items the formula has: they stand in the first places. What stands in the others, and in all of them if the
+// formula is turned back, is left free.
 pub fn decide(formula: &[u8], places: &mut [Item]) -> Result<usize, Refusal>
     requires short { length formula.now ≤ 16384 }
     requires places { length places.old ≡ 129 }

@@ -1,6 +1,6 @@
 // What the first pass notes of a formula for the second: its operands and its operators, in the order of their bytes.
-ghost use Rattle.std.specs.Prelude.{◌≡◌, [], ◌∷◌, ◌++◌, List, length};
-ghost use Rattle.formula.specs.Items.{Noted, notes};
+ghost use Rattle.std.specs.Prelude.{◌≡◌};
+ghost use Rattle.formula.specs.Items.{notes, with_item};
 
 #[derive(Clone, Copy)]
 pub enum Kind {
@@ -23,8 +23,7 @@ pub const PLACES: usize = 129;
 
 // One item more, if a place is left.
 pub fn note(places: &mut [Item], count: &mut usize, item: Item)
-    ensures size { length places.new ≡ length places.old }
-    ensures noted { (xs : List Item) → Noted (notes places.old count.old) xs → Noted (notes places.new count.new) (xs ++ (item ∷ [])) }
+    ensures { notes places.new count.new ≡ with_item item (notes places.old count.old) }
 {
     if *count < places.len() {
         places[*count] = item;

@@ -4,9 +4,9 @@ ghost use Rattle.formula.specs.declared.seen.Next.{Next};
 ghost use Rattle.formula.specs.declared.token.Class.{Class};
 ghost use Rattle.formula.specs.declared.items.Item.{Item};
 ghost use Rattle.formula.specs.Converted.{answer_number, judged, outcome_of};
-ghost use Rattle.formula.specs.Items.{Noted, Notes, items_read, notes};
+ghost use Rattle.formula.specs.Items.{Noted, item, items_read, notes, with_item};
 ghost use Rattle.formula.specs.Parse.{reading};
-ghost use Rattle.formula.specs.Seen.{After, More, may_end, seen_as, seen_of, wants};
+ghost use Rattle.formula.specs.Seen.{After, may_end, seen_as, seen_of, wants, with_begun};
 ghost use Rattle.formula.specs.Tokens.{class};
 
 use crate::items::{Item, Kind, note};
@@ -67,8 +67,7 @@ impl Seen {
 
     // What begins here is noted.
     fn note(self, kind: Kind, places: &mut [Item], count: &mut usize)
-        ensures size { length places.new ≡ length places.old }
-        ensures more { More self (notes places.old count.old) kind (notes places.new count.new) }
+        ensures { notes places.new count.new ≡ with_item (item self.depth kind) (notes places.old count.old) }
     {
         let item = Item {
             depth: self.depth,
@@ -79,7 +78,8 @@ impl Seen {
 
     // A letter.
     fn letter(self, places: &mut [Item], count: &mut usize) -> Option<Seen>
-        ensures { (b : ℕ) → After Class.Letter b self (notes places.old count.old) result (notes places.new count.new) }
+        ensures seen { (b : ℕ) → After Class.Letter b self result }
+        ensures noted { notes places.new count.new ≡ with_begun Class.Letter self (notes places.old count.old) }
     {
         if !self.wants() {
             return None;
@@ -92,7 +92,7 @@ impl Seen {
     fn longer(self, v: u8, b: u8) -> Option<Seen>
         requires number { self.next ≡ Next.SignSpaceOrDigit v }
         requires digit { (48 ≤ b) × (b < 58) }
-        ensures { (m : Notes) → After Class.Digit b self m result m }
+        ensures { After Class.Digit b self result }
     {
         let n = u32::from(v) * 10 + u32::from(b - b'0');
         match u8::try_from(n) {
@@ -104,7 +104,8 @@ impl Seen {
     // A digit, of a new number or of one that goes on.
     fn digit(self, b: u8, places: &mut [Item], count: &mut usize) -> Option<Seen>
         requires { (48 ≤ b) × (b < 58) }
-        ensures { After Class.Digit b self (notes places.old count.old) result (notes places.new count.new) }
+        ensures seen { After Class.Digit b self result }
+        ensures noted { notes places.new count.new ≡ with_begun Class.Digit self (notes places.old count.old) }
     {
         match self.next {
             Next::Operand | Next::OperandOrSpace => {
@@ -118,7 +119,7 @@ impl Seen {
 
     fn opens(self) -> Option<Seen>
         requires { self.depth + 1 < 2 ^ 16 }
-        ensures { (b : ℕ) (m : Notes) → After Class.Opens b self m result m }
+        ensures { (b : ℕ) → After Class.Opens b self result }
     {
         if !self.wants() {
             return None;
@@ -130,7 +131,7 @@ impl Seen {
     }
 
     fn closes(self) -> Option<Seen>
-        ensures { (b : ℕ) (m : Notes) → After Class.Closes b self m result m }
+        ensures { (b : ℕ) → After Class.Closes b self result }
     {
         if self.wants() || self.depth == 0 {
             return None;
@@ -142,7 +143,8 @@ impl Seen {
     }
 
     fn sign(self, level: u8, places: &mut [Item], count: &mut usize) -> Option<Seen>
-        ensures { (b : ℕ) → After (Class.Sign level) b self (notes places.old count.old) result (notes places.new count.new) }
+        ensures seen { (b : ℕ) → After (Class.Sign level) b self result }
+        ensures noted { notes places.new count.new ≡ with_begun (Class.Sign level) self (notes places.old count.old) }
     {
         if self.wants() {
             return None;
@@ -152,7 +154,7 @@ impl Seen {
     }
 
     fn space(self) -> Option<Seen>
-        ensures { (b : ℕ) (m : Notes) → After Class.Space b self m result m }
+        ensures { (b : ℕ) → After Class.Space b self result }
     {
         match self.next {
             Next::OperandOrSpace => Some(self.then(Next::Operand)),
@@ -164,7 +166,8 @@ impl Seen {
     // One byte more; none if no formula begins with what was read.
     pub fn after(self, b: u8, places: &mut [Item], count: &mut usize) -> Option<Seen>
         requires { self.depth + 1 < 2 ^ 16 }
-        ensures { After (class b) b self (notes places.old count.old) result (notes places.new count.new) }
+        ensures seen { After (class b) b self result }
+        ensures noted { notes places.new count.new ≡ with_begun (class b) self (notes places.old count.old) }
     {
         match class_of(b) {
             Class::Sign(level) => self.sign(level, places, count),

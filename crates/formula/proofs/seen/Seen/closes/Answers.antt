@@ -6,10 +6,10 @@ use Rattle.formula.proofs.seen.Seen.closes.Goals as goal
 
 pub returns-then-wants : goal.returns-then-wants
 returns-then-wants c =
-    λ b m. elim c.then-wants.either [
-      | inl e ↦ closes_wanted b _ m (sym c.wants.ensures ∙ e)
-      | inr e ↦ closes_none b _ (sym c.wants.ensures ∙ e.0) e.1 m
+    λ b. elim c.then-wants.either [
+      | inl e ↦ closes_wanted b _ (sym c.wants.ensures ∙ e)
+      | inr e ↦ closes_none b _ (sym c.wants.ensures ∙ e.0) e.1
     ]
 
 pub returns : goal.returns
-returns c = λ b m. closes_had b _ (sym c.wants.ensures ∙ c.if-wants.false) c.if-self-eq0.false m
+returns c = λ b. closes_had b _ (sym c.wants.ensures ∙ c.if-wants.false) c.if-self-eq0.false
