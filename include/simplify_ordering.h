@@ -42,8 +42,8 @@ enum simplify_ordering_answer {
 uint8_t simplify_ordering_finish(const uint8_t *sheet, size_t sheet_length, uint8_t *out, size_t out_length,
                                  size_t *finished);
 
-/* What marking answers, besides the number of a refusal: those are never 0 and never 255. The right paper is the P lines of the
-   finished sheet and then its G lines, each ended by byte 10. */
+/* What marking answers, besides the number of a refusal: those are never 0 and never 255. The right paper is all P lines of the
+   finished sheet and then its G lines but for those whose consumer is a sort that was removed, each ended by byte 10. */
 enum simplify_ordering_verdict {
     SIMPLIFY_ORDERING_RIGHT = 0,   /* the paper's bytes are those of the right paper */
     SIMPLIFY_ORDERING_WRONG = 255  /* the sheet is finished, and the paper is anything else */

@@ -6,11 +6,12 @@ from collections import namedtuple
 
 Case = namedtuple("Case", "sheet paper says lent", defaults=(16384,))
 
-# a Sort under a Sink that keeps no order, so that it goes; its finished sheet has 88 bytes
+# case A, a Sort under a Sink that keeps no order, so that it goes, and the edge into it is not examined; its finished sheet has 88 bytes
 EXPRS = b"E,0,0,1,0\n"
 LOOSE = EXPRS + b"P,0,0,0,0,0,0,0\nP,5,1,0,0,1,1,0,0,0\nP,2,0,0,0,1,0,0,1\n"
 STEPS = b"P,0,0,0,0,0,0,0\nP,5,1,0,0,1,1,0,0,0\nP,2,0,0,0,1,0,0,0\n"
-EDGES = b"G,2,0,0\nG,1,0,0\n"
+EDGES = b"G,2,0,0\n"
+REMOVED = b"G,1,0,0\n"
 TALLY = b"T,1,5,0\n"
 RIGHT = STEPS + EDGES
 
@@ -36,6 +37,20 @@ JOIN_EDGES = b"G,3,0,1\nG,2,0,1\nG,2,1,0\n"
 GROUP = b"P,0,0,0,0,0,0,0\nP,7,0,0,0,1,1,1,0,0,1\nP,2,0,0,0,1,0,0,1\n"
 GROUP_EDGES = b"G,2,0,0\nG,1,0,1\n"
 
+# two Sorts, one above the other, that both go: the upper one's line still names the lower
+TWO = EXPRS * 2 + b"P,0,0,0,0,0,0,0\nP,5,0,0,0,1,1,0,0,0\nP,5,0,0,0,1,1,0,1,1\nP,2,0,0,0,1,0,0,2\n"
+TWO_STEPS = b"P,0,0,0,0,0,0,0\nP,5,0,0,0,1,1,0,0,0\nP,5,0,0,0,1,1,0,1,1\nP,2,0,0,0,1,0,0,0\n"
+
+# Sorts that stay, so that their unordered in-edges are examined: under an UnoptimizedDispatch, and with a slice
+DISPATCHED = b"P,0,0,0,0,0,0,0\nP,5,0,0,0,1,1,0,0,0\nP,1,0,0,0,1,0,0,1\nP,2,0,0,0,1,0,0,2\n"
+SLICED = b"P,0,0,0,0,0,0,0\nP,5,0,1,0,1,1,0,0,0\nP,2,0,0,0,1,0,0,1\n"
+
+# a Sort that goes from under a Cache, and one that goes from above it
+CACHED = EXPRS + b"P,0,0,0,0,0,0,0\nP,5,0,0,0,1,1,0,0,0\nP,18,7,0,0,1,0,0,1\nP,11,0,0,0,2,0,0,2,2\nP,2,0,0,0,1,0,0,3\n"
+CACHED_STEPS = b"P,0,0,0,0,0,0,0\nP,5,0,0,0,1,1,0,0,0\nP,18,7,0,0,1,0,0,0\nP,11,0,0,0,2,0,0,2,2\nP,2,0,0,0,1,0,0,3\n"
+ABOVE = EXPRS + b"P,0,0,0,0,0,0,0\nP,18,7,0,0,1,0,0,0\nP,5,0,0,0,1,1,0,1,0\nP,2,0,0,0,1,0,0,2\nP,2,1,0,0,1,0,0,1\n"
+ABOVE_STEPS = b"P,0,0,0,0,0,0,0\nP,18,7,0,0,1,0,0,0\nP,5,0,0,0,1,1,0,1,0\nP,2,0,0,0,1,0,0,1\nP,2,1,0,0,1,0,0,1\n"
+
 SHORT = b"P,0,0,0,0,0,0,0\nP,2,0,0,0,1,0,0,0\n"
 
 
@@ -55,6 +70,37 @@ ALL = [
     Case(LOOSE, KEPT_STEPS + EDGES, "88 wrong"),
     Case(KEPT, KEPT_STEPS + EDGES, "88 wrong"),
     Case(KEPT, STEPS + KEPT_EDGES, "88 wrong"),
+    # the edge into the removed sort: behind the others, before them, alone, ordered; its order given, its slot another
+    Case(LOOSE, RIGHT + REMOVED, "88 wrong"),
+    Case(LOOSE, STEPS + REMOVED + EDGES, "88 wrong"),
+    Case(LOOSE, STEPS + REMOVED, "88 wrong"),
+    Case(LOOSE, RIGHT + b"G,1,0,1\n", "88 wrong"),
+    Case(LOOSE, RIGHT + b"G,1,1,0\n", "88 wrong"),
+    # the removed sort's own line left out, and the edge into it besides
+    Case(LOOSE, b"P,0,0,0,0,0,0,0\nP,2,0,0,0,1,0,0,0\n" + EDGES, "88 wrong"),
+    Case(LOOSE, b"P,0,0,0,0,0,0,0\nP,2,0,0,0,1,0,0,0\n" + EDGES + REMOVED, "88 wrong"),
+    # nothing removed: all G lines
+    Case(KEPT, KEPT_STEPS + b"G,2,0,1\n", "88 wrong"),
+    # two sorts removed: of the three G lines the first stays
+    Case(TWO, TWO_STEPS + b"G,3,0,0\n", "126 right"),
+    Case(TWO, TWO_STEPS + b"G,3,0,0\nG,2,0,0\n", "126 wrong"),
+    Case(TWO, TWO_STEPS + b"G,3,0,0\nG,1,0,0\n", "126 wrong"),
+    Case(TWO, TWO_STEPS + b"G,3,0,0\nG,2,0,0\nG,1,0,0\n", "126 wrong"),
+    Case(TWO, TWO_STEPS + b"G,2,0,0\nG,1,0,0\n", "126 wrong"),
+    # a sort that stays under an UnoptimizedDispatch, and one with a slice: their unordered edges too
+    Case(EXPRS + DISPATCHED, DISPATCHED + b"G,3,0,0\nG,2,0,1\nG,1,0,0\n", "114 right"),
+    Case(EXPRS + DISPATCHED, DISPATCHED + b"G,3,0,0\nG,2,0,1\n", "114 wrong"),
+    Case(EXPRS + SLICED, SLICED + b"G,2,0,0\nG,1,0,0\n", "88 right"),
+    Case(EXPRS + SLICED, SLICED + b"G,2,0,0\n", "88 wrong"),
+    Case(EXPRS + SLICED, SLICED + b"G,1,0,0\n", "88 wrong"),
+    # a sort under a Cache: the edge into the Cache, which leaves the sort, stays; a sort above one: the edge into the Cache stays
+    Case(CACHED, CACHED_STEPS + b"G,4,0,0\nG,3,0,0\nG,3,1,0\nG,2,0,0\n", "153 right"),
+    Case(CACHED, CACHED_STEPS + b"G,4,0,0\nG,3,0,0\nG,3,1,0\nG,2,0,0\nG,1,0,0\n", "153 wrong"),
+    Case(CACHED, CACHED_STEPS + b"G,4,0,0\nG,3,0,0\nG,3,1,0\n", "153 wrong"),
+    Case(CACHED, CACHED_STEPS + b"G,4,0,0\nG,3,0,0\nG,3,1,0\nG,1,0,0\n", "153 wrong"),
+    Case(ABOVE, ABOVE_STEPS + b"G,3,0,0\nG,4,0,1\nG,1,0,1\n", "142 right"),
+    Case(ABOVE, ABOVE_STEPS + b"G,3,0,0\nG,4,0,1\nG,2,0,0\nG,1,0,1\n", "142 wrong"),
+    Case(ABOVE, ABOVE_STEPS + b"G,4,0,1\nG,1,0,1\n", "142 wrong"),
     # the steps as sent, where a sort went: the Sink's line has to name the Sort's input
     Case(LOOSE, LOOSE[len(EXPRS):] + EDGES, "88 wrong"),
     # the same edges with another keep strategy
@@ -84,9 +130,9 @@ ALL = [
     # one byte altered, at every place of every line
     *[Case(LOOSE, paper, "88 wrong") for paper in one_byte_off(RIGHT)],
     # the lines of a block in another order, a G line among the P lines
-    Case(LOOSE, STEPS + b"G,1,0,0\nG,2,0,0\n", "88 wrong"),
+    Case(KEPT, KEPT_STEPS + b"G,1,0,1\nG,2,0,1\n", "88 wrong"),
     Case(LOOSE, b"P,5,1,0,0,1,1,0,0,0\nP,0,0,0,0,0,0,0\nP,2,0,0,0,1,0,0,0\n" + EDGES, "88 wrong"),
-    Case(LOOSE, b"P,0,0,0,0,0,0,0\nP,5,1,0,0,1,1,0,0,0\nG,2,0,0\nP,2,0,0,0,1,0,0,0\nG,1,0,0\n", "88 wrong"),
+    Case(LOOSE, b"P,0,0,0,0,0,0,0\nP,5,1,0,0,1,1,0,0,0\nG,2,0,0\nP,2,0,0,0,1,0,0,0\n", "88 wrong"),
     # longer, by a byte at either end or between the blocks; longer than any sheet
     Case(LOOSE, RIGHT + b"\n", "88 wrong"),
     Case(LOOSE, RIGHT + b"\x00", "88 wrong"),
@@ -98,7 +144,7 @@ ALL = [
     Case(LOOSE, RIGHT[1:], "88 wrong"),
     Case(LOOSE, STEPS[:-1] + EDGES, "88 wrong"),
     Case(LOOSE, STEPS + EDGES[1:], "88 wrong"),
-    Case(LOOSE, STEPS + b"G,2,0,0\n", "88 wrong"),
+    Case(KEPT, KEPT_STEPS + b"G,1,0,1\n", "88 wrong"),
     Case(LOOSE, b"P,5,1,0,0,1,1,0,0,0\nP,2,0,0,0,1,0,0,0\n" + EDGES, "88 wrong"),
     # other line ends
     Case(LOOSE, RIGHT.replace(b"\n", b"\r\n"), "88 wrong"),

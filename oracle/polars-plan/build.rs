@@ -45,7 +45,7 @@ fn main() {
 
     let text = read(&module.join("mod.rs"));
     let text = insert_after(&text, VISIT, "crate::watch::visit(current_ir_node);\n");
-    let text = insert_after(&text, REMOVAL, "crate::watch::removal();\n");
+    let text = insert_after(&text, REMOVAL, "crate::watch::removal(current_ir_node);\n");
     write(&copies.join("mod.rs"), &text);
 
     let text = read(&module.join("expr.rs"));

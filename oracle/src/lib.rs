@@ -31,8 +31,12 @@ pub fn finish(sheet: &[u8], out_len: usize) -> Result<Vec<u8>, u8> {
 
 /// As `finish`, with an unforeseen panic as an answer of its own.
 pub fn try_finish(sheet: &[u8], out_len: usize) -> Result<Vec<u8>, Stop> {
-    let sheet = checked(sheet, out_len)?;
-    Ok(run::run(&sheet)?.text())
+    Ok(try_run(sheet, out_len)?.text())
+}
+
+/// As `try_finish`, with the run itself in place of its text.
+pub fn try_run(sheet: &[u8], out_len: usize) -> Result<run::Finished, Stop> {
+    run::run(&checked(sheet, out_len)?)
 }
 
 /// The sheet's lines, if no refusal that can be seen without the walks meets it.

@@ -110,15 +110,36 @@ impl Finished {
         let mut text = vec![];
 
         write_exprs(&mut text, &self.exprs);
-        for (step, _) in self.steps.items() {
-            step_lines::line(step).write(&mut text);
-        }
+        self.write_steps(&mut text);
         for edge in &self.edges {
             write_edge(&mut text, edge);
         }
         write_line(&mut text, b'T', [self.tally.removed, self.tally.visits, self.tally.looks]);
 
         text
+    }
+
+    /// The right paper: all P lines, then a G line for each edge whose consumer was not removed.
+    pub fn paper(&self) -> Vec<u8> {
+        let mut paper = vec![];
+
+        self.write_steps(&mut paper);
+        for edge in self.edges.iter().filter(|edge| !self.is_removed(edge.slot.0.0)) {
+            write_edge(&mut paper, edge);
+        }
+
+        paper
+    }
+
+    /// Did `unlink_node` take this step out of the plan?
+    pub fn is_removed(&self, step: usize) -> bool {
+        self.tally.removed_steps >> step & 1 == 1
+    }
+
+    fn write_steps(&self, text: &mut Vec<u8>) {
+        for (step, _) in self.steps.items() {
+            step_lines::line(step).write(text);
+        }
     }
 }
 

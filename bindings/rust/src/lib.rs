@@ -25,7 +25,8 @@ pub const LEAST_OUTPUT: usize = 16_384;
 /// What a paper is, if its sheet is finished.
 #[derive(Clone, Copy, Debug, PartialEq, Eq, Hash)]
 pub enum Verdict {
-    /// Its bytes are the P lines and then the G lines of the finished sheet, each ended by byte 10.
+    /// Its bytes are the P lines of the finished sheet and then its G lines but for those whose consumer is a sort that was removed,
+    /// each ended by byte 10.
     Right,
     /// It is anything else.
     Wrong,

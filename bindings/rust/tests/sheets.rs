@@ -19,7 +19,8 @@ T,1,5,0
 ";
 
 const STEPS_A: &[u8] = b"P,0,0,0,0,0,0,0\nP,5,1,0,0,1,1,0,0,0\nP,2,0,0,0,1,0,0,0\n";
-const EDGES_A: &[u8] = b"G,2,0,0\nG,1,0,0\n";
+/// The edge into the removed sort is not examined.
+const EDGES_A: &[u8] = b"G,2,0,0\n";
 
 fn paper_a() -> Vec<u8> {
     [STEPS_A, EDGES_A].concat()
@@ -70,10 +71,20 @@ fn other_papers_are_wrong() {
     let paper = paper_a();
     let no_last_line_end = &paper[..paper.len() - 1];
     let steps_as_sent = [&CASE_A[b"E,0,0,1,0\n".len()..], EDGES_A].concat();
-    let another_edge = [STEPS_A, b"G,2,0,0\nG,1,0,1\n"].concat();
+    let ordered = [STEPS_A, b"G,2,0,1\n"].concat();
+    let with_the_removed = [STEPS_A, b"G,2,0,0\nG,1,0,0\n"].concat();
     let edges_first = [EDGES_A, STEPS_A].concat();
-    let papers: [&[u8]; 8] =
-        [b"", no_last_line_end, EDGES_A, STEPS_A, &steps_as_sent, &another_edge, &edges_first, FINISHED_A];
+    let papers: [&[u8]; 9] = [
+        b"",
+        no_last_line_end,
+        EDGES_A,
+        STEPS_A,
+        &steps_as_sent,
+        &ordered,
+        &with_the_removed,
+        &edges_first,
+        FINISHED_A,
+    ];
     for paper in papers {
         assert_eq!(mark(CASE_A, paper), Ok(Verdict::Wrong), "{}", paper.escape_ascii());
     }

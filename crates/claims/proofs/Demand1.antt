@@ -79,7 +79,7 @@ some_naming sh w =
         by true h = omega arith
         by false h = omega arith
 
-some_edge : (s : List ℕ) (r : Run) → run s ≡ done r → 1 ≤ length r.edges
+pub some_edge : (s : List ℕ) (r : Run) → run s ≡ done r → 1 ≤ length r.edges
 unfolding run down up begin updated
 some_edge s r e =
     let (sh, accepted, walks) = both_done (read s then checked) simplify_and_fetch_orderings e in

@@ -53,3 +53,4 @@ pub mod Demand3
 pub mod Demand1
 pub mod Visitables
 pub mod Slots
+pub mod EdgePlaces

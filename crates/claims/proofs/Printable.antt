@@ -15,6 +15,7 @@ use Rattle.plan.specs.Graph.{Edge}
 use Rattle.plan.specs.declared.rules.Options.{Options}
 use Rattle.plan.specs.Visit.{Run, implode, implode_over, imploded, with_implodes, looks_of, looked_in, options_of, with_options, out_edge, no_edge, is_into, is_out_of, relinked, with_input, unlink_node, simplify_ir_node_orders, ruling_of, settled_by}
 use Rattle.plan.proofs.Settling.{settled}
+use Rattle.claims.specs.Limits.{ShortEdge}
 use Rattle.claims.proofs.Walks.{two_ways}
 use Rattle.claims.proofs.Every.{Every, every_set, every_append, every_map}
 use Rattle.claims.proofs.Changes.{Changes, no_change, takes_input, goes_off}
@@ -98,10 +99,6 @@ plain_with_input k input s h p =
     }
 
 -- The run ----------------------------------------------------------------------------------------------------------------------
-
-pub record ShortEdge (d : Edge) : Type 0 where
-  pub consumer : d.consumer < 32
-  pub slot : d.slot < 8
 
 pub record Printable (r : Run) : Type 0 where
   pub exprs : AllSlim r.arena

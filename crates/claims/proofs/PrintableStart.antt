@@ -27,7 +27,8 @@ use Rattle.claims.proofs.Sizes.{few_steps}
 use Rattle.claims.proofs.Keys.{key_there}
 use Rattle.plan.proofs.Counts.{mem_at}
 use Rattle.claims.proofs.Every.{Every, every_of, every_member, every_both}
-use Rattle.claims.proofs.Printable.{Slim, Plain, ShortEdge, Printable}
+use Rattle.claims.specs.Limits.{ShortEdge}
+use Rattle.claims.proofs.Printable.{Slim, Plain, Printable}
 
 -- The edges as the graph is built ----------------------------------------------------------------------------------------------
 

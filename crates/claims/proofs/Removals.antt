@@ -158,6 +158,10 @@ module _ (sh : Sheet) (keyed : Keyed sh.steps) (half : Run) (e₁ : down sh ≡ 
           omega (arith, back_or_removed n places (begin sh) e₁, (linked_begin sh keyed).once n (down_sorts n (stands_in n half.removed h)))
       by (no h) = omega arith
 
+  -- a run removes nothing but sorts
+  pub removed_sort : (whole : Run) → up half ≡ done whole → (n : ℕ) → Memᴰ n whole.removed → IsSort sh n
+  removed_sort whole e₂ n m = down_sorts n (subst (λ (l : List ℕ). Memᴰ n l) (same_removed whole e₂) m)
+
   -- in both walks
   removed_down : (n : ℕ) → Memᴰ n half.removed ↔ Removed sh half n
   removed_down n = (

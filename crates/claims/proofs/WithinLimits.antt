@@ -1,21 +1,20 @@
 -- The limits of a run and of the finished sheet: at most 14080 bytes.
-use mathlib.Core.Path.{◌≡◌, sym, ◌∙◌, subst, ap}
+use mathlib.Core.Path.{◌≡◌, sym, ◌∙◌, subst}
 use Prim.Native.Nat.{ℕ, ◌*◌, ◌≤◌, ◌<◌}
 use native.Mathlib.Omega.{arith}
 use mathlib.Core.List.Memᴰ
 use mathlib.Core.List.{List, ◌∷◌, ◌++◌, Memᴰ}
 use lib.ListN.{length, length-append}
-use Rattle.plan.specs.Sheet.{Sheet, done, ◌then◌, no_expr, no_step, expr_at, step_at, read}
-use Rattle.plan.specs.Faults.{checked}
-use Rattle.plan.specs.Graph.{graph}
+use Rattle.plan.specs.Sheet.{Sheet, done, no_expr, no_step, expr_at, step_at}
+use Rattle.plan.specs.Graph.{Edge, graph}
 use Rattle.plan.specs.Visit.{Run, no_edge, simplify_ir_node_orders}
-use Rattle.plan.specs.Walks.{begin, down, up, simplify_and_fetch_orderings}
+use Rattle.plan.specs.Walks.{begin, down, up}
 use Rattle.claims.proofs.MergedPlan.{updated_own}
-use Rattle.claims.proofs.Ends.{ends}
+use Rattle.claims.proofs.Ends.{ends_on}
 use Rattle.plan.specs.Text.{printed, exprs_block, steps_block, edges_block, tally_line, expr_line, step_line, edge_line, blocks, joined}
 use Rattle.plan.specs.Finished.{run, finished}
 use Rattle.claims.specs.WellFormed.{Accepted}
-use Rattle.claims.specs.Limits.{WithinLimits}
+use Rattle.claims.specs.Limits.{ShortEdge, WithinLimits}
 use Rattle.claims.proofs.Sizes.{few_places}
 use Rattle.plan.proofs.Outcomes.{both_done, same_value}
 use Rattle.claims.proofs.Taken.{well_formed}
@@ -25,7 +24,7 @@ use Rattle.claims.proofs.VisitLooks.{Sound, inside_of_step}
 use Rattle.claims.proofs.LooksBounded.{sound_visit, sound_begin}
 use Rattle.claims.proofs.RunLimits.{Within, limits_down, limits_up, within_whole}
 use Rattle.claims.proofs.Every.{place_of, every_member}
-use Rattle.claims.proofs.Printable.{ShortEdge, Printable, printable_visit}
+use Rattle.claims.proofs.Printable.{Printable, printable_visit}
 use Rattle.claims.proofs.PrintableStart.{printable_begin}
 use Rattle.claims.proofs.TextLength.{block_short, expr_line_short, step_line_short, edge_line_short, tally_line_short}
 
@@ -99,19 +98,27 @@ kept_visit : (n : ℕ) (ns : List ℕ) (r r' : Run) → Kept (n ∷ ns) r → si
 kept_visit n ns r r' (sound, p) e = (sound_visit n ns r r' sound e, printable_visit n r r' sound p e)
 
 module _ (s : List ℕ) (sh : Sheet) (accepted : Accepted s sh) where
-  text_short : (out : List ℕ) → finished s ≡ done out → length out ≤ 14080
-  unfolding finished run down up
-  text_short out e =
+  -- a run that comes to its end
+  short : (r : Run) → run s ≡ done r → Printable r × (length (printed r) ≤ 14080)
+  unfolding down up
+  short r e =
       let wf = well_formed s sh accepted in
-      let (r, e₁, e₂) = both_done (run s) (λ r. done (printed r)) e in
-      let (sh₁, a, e₃) = both_done (read s then checked) simplify_and_fetch_orderings e₁ in
-      let same : sh₁ ≡ sh = same_value (sym a ∙ accepted) in
-      let x = ends sh r (subst (λ (x : Sheet). simplify_and_fetch_orderings x ≡ done r) same e₃) in
+      let x = ends_on s sh r accepted e in
       let half = x.half in
       let kept_half = walk_keeps Kept kept_visit (graph sh.steps).0 (begin sh) (sound_begin sh wf, printable_begin sh wf) x.down_ends in
       let kept = walk_keeps Kept kept_visit half.back half kept_half x.up_ends in
       let own : x.whole ≡ r = sym (x.updates ∙ updated_own sh wf x.whole) in
-      subst (λ (l : List ℕ). length l ≤ 14080) (ap printed own ∙ same_value e₂) (printed_short x.whole (within_whole sh wf half x.whole x.down_ends x.up_ends) kept.1)
+      subst (λ (q : Run). Printable q × (length (printed q) ≤ 14080)) own
+      (kept.1, printed_short x.whole (within_whole sh wf half x.whole x.down_ends x.up_ends) kept.1)
+
+  text_short : (out : List ℕ) → finished s ≡ done out → length out ≤ 14080
+  unfolding finished
+  text_short out e =
+      let (r, e₁, e₂) = both_done (run s) (λ r. done (printed r)) e in
+      subst (λ (l : List ℕ). length l ≤ 14080) (same_value e₂) (short r e₁).1
+
+  each_edge_short : (r : Run) → run s ≡ done r → (d : Edge) → Memᴰ d r.edges → ShortEdge d
+  each_edge_short r e = every_member ShortEdge no_edge r.edges (short r e).0.edges
 
 pub within_limits : WithinLimits
 within_limits s sh accepted =
@@ -121,4 +128,5 @@ within_limits s sh accepted =
       visited_down = limits_down sh wf;
       visited_up = limits_up sh wf;
       text = text_short s sh accepted;
+      edges = each_edge_short s sh accepted;
     }

@@ -2,10 +2,10 @@
 use Rattle.std.specs.Prelude.{◌≡◌, ℕ, ◌≤◌, ◌<◌, ◌^◌, length}
 use mathlib.Core.List.{List, Memᴰ}
 use Rattle.plan.specs.Sheet.{Expr, Sheet, done, expr_at}
-use Rattle.plan.specs.Graph.{graph}
+use Rattle.plan.specs.Graph.{Edge, graph}
 use Rattle.plan.specs.Visit.{Run, looked_in}
 use Rattle.plan.specs.Walks.{down}
-use Rattle.plan.specs.Finished.{finished}
+use Rattle.plan.specs.Finished.{run, finished}
 use Rattle.claims.specs.WellFormed.{Accepted}
 use Rattle.plan.specs.Conditions.{Down, Up}
 
@@ -28,11 +28,17 @@ pub record VisitLimits (n : ℕ) (r : Run) : Type 0 where
   pub earlier : ChildrenEarlier (looked_in n r).end.expr_arena
   pub looks : (looked_in n r).end.tally.looks < 2 ^ 58
 
+-- the numbers of a G line have two digits at most, and one
+pub record ShortEdge (d : Edge) : Type 0 where
+  pub consumer : d.consumer < 32
+  pub slot : d.slot < 8
+
 pub record Limits (s : List ℕ) (sh : Sheet) : Type 0 where
   pub places : length (graph sh.steps).0 ≤ 288
   pub visited_down : (n : ℕ) (r : Run) → Down sh n r → VisitLimits n r
   pub visited_up : (half : Run) → down sh ≡ done half → (n : ℕ) (r : Run) → Up half n r → VisitLimits n r
   pub text : (out : List ℕ) → finished s ≡ done out → length out ≤ 14080
+  pub edges : (whole : Run) → run s ≡ done whole → (d : Edge) → Memᴰ d whole.edges → ShortEdge d
 
 abbrev pub WithinLimits : Type 0
 WithinLimits = (s : List ℕ) (sh : Sheet) → Accepted s sh → Limits s sh

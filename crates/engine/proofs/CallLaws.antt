@@ -49,6 +49,10 @@ module _ (s output : List ℕ) (room : 16384 ≤ length output) where
 
 -- What reading hands on ----------------------------------------------------------------------------------------------------------
 
+pub taken_run : (s : List ℕ) (sh : Sheet) → plan_of s ≡ done sh → simplify_and_fetch_orderings sh ≡ run s
+unfolding run plan_of ◌then◌
+taken_run s sh p = sym (ap (λ (o : Outcome Sheet). o then simplify_and_fetch_orderings) p)
+
 pub accepted_formed : (s : List ℕ) (sh : Sheet) → plan_of s ≡ done sh → WellFormed sh
 unfolding plan_of
 accepted_formed s sh p = well_formed s sh p

@@ -17,6 +17,8 @@ use Rattle.plan.specs.Text as text
 use Rattle.plan.specs.Visit.{Run}
 use Rattle.plan.specs.Walks.{simplify_and_fetch_orderings}
 use Rattle.storage.specs.Stored.{arena_of, stored_steps, StepsHeld}
+use Rattle.storage.specs.declared.removed.Removed.{Removed}
+use Rattle.storage.specs.Removed.{RemovedAre}
 use Rattle.storage.specs.Start.{OwnLines, NoneOff}
 use Rattle.expr.proofs.Asked.{based_of_sheet}
 use Rattle.expr.proofs.Starts.{arena_at_start}
@@ -101,9 +103,10 @@ pub refused_call : (sh : Sheet) (entry : List ℕ) (k : ℕ) → simplify_and_fe
 unfolding called
 refused_call sh entry k e = sym (ap (called entry) e)
 
-pub finished_call : (sh : Sheet) (entry exit : List ℕ) (run : List ℕ → List ℕ → Run) (removed : ℕ) (f : Finished) (back gone : List ℕ)
-    → simplify_and_fetch_orderings sh ≡ done (run back gone) → removed ≡ length gone → RunWrote run removed entry exit f
+-- the run that the walks end with, what is written of it and what is reported
+pub finished_call : (sh : Sheet) (entry exit : List ℕ) (run : List ℕ → List ℕ → Run) (m : Removed) (f : Finished) (back gone : List ℕ)
+    → simplify_and_fetch_orderings sh ≡ done (run back gone) → RemovedAre gone m → RunWrote run m.count entry exit f
     → call (done f) exit ≡ called entry (simplify_and_fetch_orderings sh)
 unfolding called
-finished_call sh entry exit run removed f back gone ends count k =
-    ap₂ (λ (x : Finished) (y : List ℕ). call (done x) y) (k.answer back gone count) (k.bytes back gone count) ∙ sym (ap (called entry) ends)
+finished_call sh entry exit run m f back gone ends k w =
+    ap₂ (λ (x : Finished) (y : List ℕ). call (done x) y) (w.answer back gone k.count) (w.bytes back gone k.count) ∙ sym (ap (called entry) ends)

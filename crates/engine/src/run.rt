@@ -6,8 +6,9 @@ ghost use Rattle.plan.specs.Walks.{simplify_and_fetch_orderings};
 ghost use Rattle.claims.specs.WellFormed.{WellFormed};
 ghost use Rattle.simplify_ordering.specs.Held.{run_of};
 ghost use Rattle.simplify_ordering.specs.Walks.{sheet_of};
-ghost use Rattle.engine.specs.Call.{call, RunWrote};
+ghost use Rattle.engine.specs.Call.{call, finished_of, Reports, RunWrote};
 
+use crate::report::Report;
 use ir_graph::ir_graph::build_ir_traversal_graph;
 use ir_graph::places::Places;
 use plan::answer::Finished;
@@ -40,14 +41,16 @@ fn write_run(run: &mut StoredRun, ends: &[u8; 544], removed: usize, out: &mut [u
 }
 
 // The graph of a plan, the walks over it, and what they leave. A refusal comes before anything is written.
-pub fn finish_run(run: &mut StoredRun, out: &mut [u8]) -> Result<Finished, Refusal>
+pub fn finish_run(run: &mut StoredRun, out: &mut [u8]) -> Result<Report, Refusal>
     requires in_bounds { 16384 ≤ length out.old }
     requires formed { WellFormed (sheet_of run.old) }
-    ensures { call (outcome_of result) out.new ≡ called out.old (simplify_and_fetch_orderings (sheet_of run.old)) }
+    ensures out_after { call (finished_of (outcome_of result)) out.new ≡ called out.old (simplify_and_fetch_orderings (sheet_of run.old)) }
+    ensures reports { Reports (simplify_and_fetch_orderings (sheet_of run.old)) result }
 {
     let mut list = Places::new();
     let mut ends: [u8; 544] = [0; 544];
     build_ir_traversal_graph(&run.steps, &mut list, &mut ends, &mut run.edges);
     let removed = simplify_and_fetch_orderings(run, &ends, list.as_slice())?;
-    Ok(write_run(run, &ends, removed, out))
+    let finished = write_run(run, &ends, removed.count, out);
+    Ok(Report { finished, removed })
 }

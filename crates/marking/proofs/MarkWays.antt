@@ -6,14 +6,19 @@ use mathlib.Core.List.{List, ◌++◌}
 use lib.ListN.{length, take, drop, length-append, length-drop}
 use lib.Seq.{take-append-le, drop-append-le, take_all, drop_at}
 use Rattle.plan.specs.declared.answer.Finished.{Finished}
-use Rattle.plan.specs.Finished.{Called, called, finish, finished_answer}
+use Rattle.plan.specs.Finished.{Called, called, run, finish, finished_answer, too_short}
 use Rattle.plan.specs.Lists.{same}
 use Rattle.plan.specs.Sheet.{Outcome, refused, done}
 use Rattle.plan.specs.Text.{exprs_block, steps_block, edges_block, tally_line, printed, blocks, joined, end_of}
 use Rattle.plan.specs.Visit.{Run}
-use Rattle.engine.specs.Call.{call}
+use Rattle.plan.proofs.Outcomes.{same_value, passed}
+use Rattle.storage.specs.declared.removed.Removed.{Removed}
+use Rattle.edge_line.specs.EdgeLine.{LinesOf}
+use Rattle.engine.specs.Call.{call, RemovedIn}
 use Rattle.marking.specs.declared.answer.Mark.{Mark}
-use Rattle.marking.specs.Marking.{mark_call, verdict, right_paper, mark_of, marked, marked_run}
+use Rattle.marking.specs.Examined.{unmarked_lines}
+use Rattle.marking.specs.Marking.{mark_call, examined_block, verdict, right_paper, mark_of, marked, marked_run}
+use Rattle.marking.proofs.ExaminedEdges.{short_edges, examined_are}
 
 -- the bytes of a text from the place m up to the place n, as the code lends them
 abbrev between : ℕ → ℕ → List ℕ → List ℕ
@@ -102,10 +107,11 @@ module _ (f : Finished) (r : Run) (entry exit : List ℕ) (e : call (done f) exi
       lines_alone f.steps f.edges ordered.edges (omega arith)
       ∙ at_end f.steps f.edges (es ++ ps) gs steps_end edges_end
 
-  -- so the comparison is with the right paper
-  paper_stands : between f.exprs f.steps exit ++ between f.steps f.edges exit ≡ right_paper r
+  -- a mark given by these two blocks is given by the right paper, if m says which sorts were removed
+  right_stands : (m : Removed) (paper : List ℕ) → unmarked_lines m r.edges ≡ examined_block r
+      → verdict (same paper (between f.exprs f.steps exit ++ unmarked_lines m r.edges)) ≡ verdict (same paper (right_paper r))
   unfolding right_paper
-  paper_stands = ap₂ (λ (x y : List ℕ). x ++ y) steps_stand edges_stand
+  right_stands m paper i = ap₂ (λ (x y : List ℕ). verdict (same paper (x ++ y))) steps_stand i
 
 -- By what the definition says ----------------------------------------------------------------------------------------------------
 
@@ -131,15 +137,33 @@ module _ (s entry exit : List ℕ) where
   unfolding finish marked
   refused_mark paper k e = refused_by entry exit paper k (marked_run s entry) e
 
-  pub places_ordered : (f : Finished) → call (done f) exit ≡ finish s entry → Ordered f exit
-  unfolding finish
-  places_ordered f e = finished_by entry exit f (marked_run s entry) e (λ r o c. ordered f r entry exit c)
+  module _ (f : Finished) (e : call (done f) exit ≡ finish s entry) where
+    pub places_ordered : Ordered f exit
+    unfolding finish
+    places_ordered = finished_by entry exit f (marked_run s entry) e (λ r o c. ordered f r entry exit c)
 
-  pub finished_mark : (paper : List ℕ) (f : Finished) → call (done f) exit ≡ finish s entry → (m : Mark)
-      → m ≡ verdict (same paper (between f.exprs f.steps exit ++ between f.steps f.edges exit)) → mark_call (done m) exit ≡ marked s paper entry
-  unfolding finish marked mark_of called
-  finished_mark paper f e m v =
-      finished_by entry exit f (marked_run s entry) e
-      (λ r o c.
-      ap₂ mark_call (ap done (v ∙ ap (λ (l : List ℕ). verdict (same paper l)) (paper_stands f r entry exit c)) ∙ ap (mark_of paper) (sym o))
-      (ap (λ (x : Called). x.output) e))
+    module _ (m : Removed) (k : RemovedIn (run s) m) where
+      abbrev whole : Run
+      whole = k.whole
+
+      -- the run that was made is the one that finishes s
+      made : marked_run s entry ≡ done whole
+      unfolding finish
+      made = finished_by entry exit f (marked_run s entry) e (λ r o c. o ∙ ap done (same_value (sym (passed (too_short entry) 1 (run s) o).1 ∙ k.runs)))
+
+      called_is : call (done f) exit ≡ called entry (done whole)
+      unfolding finish
+      called_is = e ∙ ap (called entry) made
+
+      -- its G lines are lent
+      pub lines_lent : LinesOf whole.edges (between f.steps f.edges exit)
+      unfolding edges_block
+      lines_lent = record { short = short_edges s whole k.runs; is = edges_stand f whole entry exit called_is }
+
+      pub finished_mark : (paper : List ℕ) (a : Mark)
+          → a ≡ verdict (same paper (between f.exprs f.steps exit ++ unmarked_lines m whole.edges)) → mark_call (done a) exit ≡ marked s paper entry
+      unfolding finish marked mark_of called
+      finished_mark paper a v =
+          ap₂ mark_call
+          (ap done (v ∙ right_stands f whole entry exit called_is m paper (examined_are m whole k.are (short_edges s whole k.runs))) ∙ ap (mark_of paper) (sym made))
+          (ap (λ (x : Called). x.output) e)

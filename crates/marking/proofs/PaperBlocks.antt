@@ -7,28 +7,32 @@ use mathlib.Core.Bool.{Bool, true, false, not}
 use mathlib.Core.List.{List, [], ◌∷◌, ◌++◌, append-nil}
 use lib.Dec.{T, eqb}
 use lib.ListN.{length}
-use Rattle.plan.specs.Lists.{all?, concat_map}
-use Rattle.plan.specs.Text.{decimal, line, step_line, edge_line, steps_block, edges_block}
+use Rattle.plan.specs.Lists.{all?, concat_map, select}
+use Rattle.plan.specs.Text.{decimal, line, step_line, edge_line, steps_block}
 use Rattle.plan.specs.Visit.{Run}
 use Rattle.plan.proofs.ListLaws.{and_left, and_right}
 use Rattle.plan.proofs.Without.{other, Without, without_append, without_all, without_decimal}
-use Rattle.marking.specs.Marking.{right_paper, before_G, from_G}
+use Rattle.marking.specs.Marking.{examined, examined_block, right_paper, before_G, from_G}
 
 -- Bytes without the letter G ------------------------------------------------------------------------------------------------------
 
 abbrev free : ℕ → Bool
 free = other 71
 
-abbrev GFree : List ℕ → Type 0
+abbrev pub GFree : List ℕ → Type 0
 GFree = Without 71
 
 free_number : (n : ℕ) → GFree (44 ∷ decimal n)
 unfolding all?
 free_number n = without_decimal 71 (λ d h e. omega arith) n
 
+pub free_fields : (ns : List ℕ) → GFree (concat_map (λ n. 44 ∷ decimal n) ns ++ (10 ∷ []))
+unfolding all?
+free_fields ns = without_append 71 (concat_map (λ n. 44 ∷ decimal n) ns) (10 ∷ []) (without_all 71 (λ n. 44 ∷ decimal n) free_number ns) tt
+
 free_line : (ns : List ℕ) → GFree (line 80 ns)
 unfolding line all?
-free_line ns = without_append 71 (concat_map (λ n. 44 ∷ decimal n) ns) (10 ∷ []) (without_all 71 (λ n. 44 ∷ decimal n) free_number ns) tt
+free_line ns = free_fields ns
 
 -- they stand before the first G
 before_free : (x y : List ℕ) → GFree x → before_G (x ++ y) ≡ x ++ before_G y
@@ -87,16 +91,16 @@ module _ {A : Type 0} (row : A → List ℕ) where
 
 -- those of the right paper
 module _ (r : Run) where
-  free_steps : GFree (steps_block r)
+  pub free_steps : GFree (steps_block r)
   unfolding steps_block step_line
   free_steps = free_lines _ r.steps
 
   pub right_before : before_G (right_paper r) ≡ steps_block r
-  unfolding right_paper edges_block edge_line
+  unfolding right_paper examined_block edge_line
   right_before =
-      before_free (steps_block r) (edges_block r) free_steps
-      ∙ ap (λ (l : List ℕ). steps_block r ++ l) (before_lines _ r.edges) ∙ append-nil (steps_block r)
+      before_free (steps_block r) (examined_block r) free_steps
+      ∙ ap (λ (l : List ℕ). steps_block r ++ l) (before_lines _ (select (examined r) r.edges)) ∙ append-nil (steps_block r)
 
-  pub right_from : from_G (right_paper r) ≡ edges_block r
-  unfolding right_paper edges_block edge_line
-  right_from = from_free (steps_block r) (edges_block r) free_steps ∙ from_lines _ r.edges
+  pub right_from : from_G (right_paper r) ≡ examined_block r
+  unfolding right_paper examined_block edge_line
+  right_from = from_free (steps_block r) (examined_block r) free_steps ∙ from_lines _ (select (examined r) r.edges)

@@ -1,1 +1,2 @@
 pub mod Marking
+pub mod Examined

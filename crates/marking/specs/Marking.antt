@@ -1,12 +1,16 @@
--- Marking: a candidate's paper against the P and G lines of the finished sheet, and every byte of the output that is lent.
-use Rattle.std.specs.Prelude.{◌≡◌, ℕ, ◌≤◌, Bool, true, false, eqb, if◌then◌else◌}
+-- Marking: a candidate's paper against the P lines of the finished sheet and those of its G lines that are examined, and every byte of
+-- the output that is lent.
+use Rattle.std.specs.Prelude.{◌≡◌, ℕ, ◌≤◌, Bool, true, false, not, eqb, if◌then◌else◌}
 use mathlib.Core.List.{List, [], ◌∷◌, ◌++◌, Memᴰ}
-use Rattle.plan.specs.Lists.{same, concat_map}
-use Rattle.plan.specs.Sheet.{Outcome, refused, done, refuse◌when◌else◌}
+use Rattle.plan.specs.Lists.{same, among, concat_map, digit, select}
+use Rattle.plan.specs.Sheet.{Sheet, Outcome, refused, done, refuse◌when◌else◌}
+use Rattle.plan.specs.Graph.{Edge, graph}
 use Rattle.plan.specs.Finished.{run, finish, too_short}
-use Rattle.plan.specs.Text.{line, steps_block, edges_block}
+use Rattle.plan.specs.Text.{line, edge_line, steps_block, edges_block}
 use Rattle.plan.specs.Visit.{Run}
 use Rattle.plan.specs.Conditions.{refusal_numbers}
+use Rattle.claims.specs.Limits.{ShortEdge}
+use Rattle.claims.specs.WellFormed.{Accepted}
 use Rattle.writing.specs.Refusal.{refusal_line}
 use Rattle.marking.specs.declared.answer.Mark.{Mark}
 
@@ -18,9 +22,16 @@ pub record MarkCalled : Type 0 where
 abbrev pub mark_call : Outcome Mark → List ℕ → MarkCalled
 mark_call r output = record { answer = r; output = output }
 
--- the one right paper: the P lines of the finished sheet, then its G lines
+-- an edge is examined unless its consumer was removed, by either walk: it belongs to no step of the finished plan then
+abbrev pub examined : Run → Edge → Bool
+examined r d = not (among d.consumer r.removed)
+
+unfoldable pub examined_block : Run → List ℕ
+examined_block r = concat_map edge_line (select (examined r) r.edges)
+
+-- the one right paper: all P lines of the finished sheet, a removed sort's among them, then the G lines of the edges that are examined
 unfoldable pub right_paper : Run → List ℕ
-right_paper r = steps_block r ++ edges_block r
+right_paper r = steps_block r ++ examined_block r
 
 unfoldable pub verdict : Bool → Mark
 verdict true = Mark.Right
@@ -73,6 +84,13 @@ unfoldable pub from_G : List ℕ → List ℕ
 from_G [] = []
 from_G (b ∷ bs) = if eqb b 71 then b ∷ bs else from_G bs
 
+-- an edge's line stands in a paper, ordered or not
+pub record HasLine (d : Edge) (paper : List ℕ) : Type 0 where
+  pub before : List ℕ
+  pub behind : List ℕ
+  pub ordered : Bool
+  pub is : paper ≡ before ++ line 71 (d.consumer ∷ d.slot ∷ digit ordered ∷ []) ++ behind
+
 -- Laws, of every sheet s, paper and output -----------------------------------------------------------------------------------------
 
 -- on a sheet that is finished
@@ -80,9 +98,17 @@ pub record Examined (s paper output : List ℕ) (whole : Run) : Type 0 where
   pub right : paper ≡ right_paper whole → (marked s paper output).answer ≡ done Mark.Right
   pub wrong : ¬ (paper ≡ right_paper whole) → (marked s paper output).answer ≡ done Mark.Wrong
   -- right exactly if both blocks are the sheet's: neither makes up for the other
-  pub both_right : before_G paper ≡ steps_block whole → from_G paper ≡ edges_block whole → (marked s paper output).answer ≡ done Mark.Right
+  pub both_right : before_G paper ≡ steps_block whole → from_G paper ≡ examined_block whole → (marked s paper output).answer ≡ done Mark.Right
   pub other_steps : ¬ (before_G paper ≡ steps_block whole) → (marked s paper output).answer ≡ done Mark.Wrong
-  pub other_edges : ¬ (from_G paper ≡ edges_block whole) → (marked s paper output).answer ≡ done Mark.Wrong
+  pub other_edges : ¬ (from_G paper ≡ examined_block whole) → (marked s paper output).answer ≡ done Mark.Wrong
+  -- a paper that has the G line of an edge into a removed sort is wrong, whatever slot and order stand on it
+  pub removed_edge : (d : Edge) → ShortEdge d → Memᴰ d.consumer whole.removed → (before behind : List ℕ) → paper ≡ before ++ edge_line d ++ behind
+      → (marked s paper output).answer ≡ done Mark.Wrong
+  -- a right paper has the line of every other edge of the plan as it was sent: of the edge that leaves a removed sort too
+  pub other_edge : (sh : Sheet) → Accepted s sh → (d : Edge) → Memᴰ d (graph sh.steps).1 → ¬ Memᴰ d.consumer whole.removed
+      → (marked s paper output).answer ≡ done Mark.Right → HasLine d paper
+  -- where no sort was removed, all G lines are examined
+  pub none_removed : whole.removed ≡ [] → (marked s paper output).answer ≡ done (verdict (same paper (steps_block whole ++ edges_block whole)))
   -- G lines alone are never right, nor are P lines alone, whatever numbers stand on them; nor is an empty paper
   pub edges_alone : (rows : List (List ℕ)) → paper ≡ concat_map (line 71) rows → (marked s paper output).answer ≡ done Mark.Wrong
   pub steps_alone : (rows : List (List ℕ)) → paper ≡ concat_map (line 80) rows → (marked s paper output).answer ≡ done Mark.Wrong

@@ -2,7 +2,7 @@
 
 #[derive(Clone, Copy, Debug, PartialEq, Eq)]
 pub enum Mark {
-    // The paper is the P lines and then the G lines of the finished sheet.
+    // The paper is the P lines of the finished sheet, then its G lines but for those into removed sorts.
     Right,
     Wrong,
 }

@@ -1,10 +1,10 @@
 -- Both walks, one after the other: the definition's run, or the number of the visit that was refused.
 use mathlib.Core.Path.{◌≡◌, sym, ap, ◌∙◌, subst}
-use Prim.Native.Nat.{ℕ, ◌+◌, ◌-◌}
+use Prim.Native.Nat.{ℕ, ◌-◌}
 use native.Mathlib.Omega.{arith}
 use mathlib.Core.List.{List, [], ◌++◌, append-nil}
 use Rattle.std.specs.Prelude.{Ok, Err}
-use lib.ListN.{length, take, length-append, length-drop}
+use lib.ListN.{length, take, length-drop}
 use lib.Seq.{take_all}
 use Rattle.plan.specs.declared.refusal.Refusal.{Refusal}
 use Rattle.plan.specs.Refusals.{refusal_number}
@@ -18,6 +18,8 @@ use Rattle.claims.proofs.Visitables.{visitable_down, visitable_up}
 use Rattle.simplify_ordering.specs.declared.back.Back.{Back}
 use Rattle.simplify_ordering.specs.declared.run.StoredRun.{StoredRun}
 use Rattle.storage.specs.Held.{arena_in, steps_in, edges_in}
+use Rattle.storage.specs.Removed.{RemovedAre}
+use Rattle.storage.specs.declared.removed.Removed.{Removed}
 use Rattle.simplify_ordering.specs.Walks.{places, WalkAsks, walk_stopped, WalkEnds, WalkStops, sheet_of, stopped_by, fetch_stopped, FetchAsks, FetchGives}
 
 -- the part of an array from `at` on, as the code lends it
@@ -64,7 +66,8 @@ module _ (r : StoredRun) (ends list : List ℕ) (ask : FetchAsks r ends list) wh
           (g.pushed ++ [], g.gone ++ [], sym (ap (stopped_by sh) is ∙ sym stop_is ∙ g.stop [] [])),
         )
 
-    module _ (backs : (back gone : List ℕ) → (half back gone).back ≡ back) (b : Back) (g : WalkEnds list start half b) where
+    module _ (backs : (back gone : List ℕ) → (half back gone).back ≡ back) (m : Removed) (none : RemovedAre [] m) (b : Back)
+        (g : WalkEnds list m start half b) where
       abbrev h : Run
       h = half (places b ++ []) (g.gone ++ [])
 
@@ -99,10 +102,10 @@ module _ (r : StoredRun) (ends list : List ℕ) (ask : FetchAsks r ends list) wh
           ),
         )
 
-        pub up_ended : (b' : Back) → WalkEnds ns half after b' → FetchGives sh after (Ok (b.removed + b'.removed))
+        pub up_ended : (b' : Back) → WalkEnds ns b.removed half after b' → FetchGives sh after (Ok b'.removed)
         up_ended b' g' = (
           places b' ++ (places b ++ []),
           g'.gone ++ (g.gone ++ []),
           up_is ∙ g'.is (places b ++ []) (g.gone ++ []),
-          omega (arith, g.count, g'.count, length-append g'.gone (g.gone ++ []), length-append {A = ℕ} g.gone []),
+          g'.removed (g.gone ++ []) (g.removed [] none),
         )

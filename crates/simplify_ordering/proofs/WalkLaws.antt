@@ -12,9 +12,15 @@ use Rattle.plan.specs.Visit.{Run, goes, looked_in, simplify_ir_node_orders}
 use Rattle.plan.specs.Walks.{walk, trace, then_all, trace_by, walk_by}
 use Rattle.claims.specs.Visitable.{Visitable, AllVisitable}
 use Rattle.simplify_ordering.specs.declared.back.Back.{Back}
+use Rattle.simplify_ordering.specs.declared.run.StoredRun.{StoredRun}
 use Rattle.simplify_ordering.specs.declared.visit.Visited.{Visited}
+use Rattle.simplify_ordering.specs.Held.{run_of}
 use Rattle.simplify_ordering.specs.Walks.{places, Noted, WalkAsks, or_stopped, walk_stopped, WalkEnds, WalkStops}
 use Rattle.simplify_ordering.specs.Run.{Comes}
+use Rattle.storage.specs.Removed.{RemovedAre}
+use Rattle.storage.specs.declared.removed.Removed.{Removed}
+use Rattle.storage.proofs.Laws.{length_steps}
+use Rattle.storage.proofs.RemovedLaws.{one_more}
 
 -- Along the places ---------------------------------------------------------------------------------------------------------------------
 
@@ -47,24 +53,25 @@ visitable_first : (n : ℕ) (rest : List ℕ) (r : Run) → AllVisitable (n ∷ 
 unfolding trace_by
 visitable_first n rest r v = v n r (Memᴰ.head refl)
 
--- ns are all places of the walk, `rest` those that are left; `before` is the run as it set out, `after` as it is now
-pub record Walking (ns rest : List ℕ) (before after : List ℕ → List ℕ → Run) (b : Back) : Type 0 where
+-- ns are all places of the walk, `rest` those that are left; `before` is the run as it set out, `after` as it is now, and m says which
+-- sorts had been removed before it
+pub record Walking (ns rest : List ℕ) (m : Removed) (before after : List ℕ → List ℕ → Run) (b : Back) : Type 0 where
   pub gone : List ℕ
-  pub count : b.removed ≡ length gone
+  pub noted : (earlier : List ℕ) → RemovedAre earlier m → RemovedAre (gone ++ earlier) b.removed
   pub on : (back d : List ℕ) → walk ns (before back d) ≡ walk rest (after (places b ++ back) (gone ++ d))
   pub on_stopped : (back d : List ℕ) → walk_stopped ns (before back d) ≡ walk_stopped rest (after (places b ++ back) (gone ++ d))
   pub back : List ℕ
   pub removed : List ℕ
   pub visitable : AllVisitable rest (after (places b ++ back) (gone ++ removed))
 
-module _ (ns : List ℕ) (before : List ℕ → List ℕ → Run) where
-  -- as a walk sets out, nothing is stored
-  pub walking_none : WalkAsks ns before → (b : Back) → b.at ≡ 288 → b.removed ≡ 0 → Walking ns ns before before b
-  walking_none a b at none =
+module _ (ns : List ℕ) (m : Removed) (before : List ℕ → List ℕ → Run) where
+  -- as a walk sets out, no place is stored
+  pub walking_none : WalkAsks ns before → (b : Back) → b.at ≡ 288 → b.removed ≡ m → Walking ns ns m before before b
+  walking_none a b at same =
       let p : places b ≡ [] = drop_of_length-le b.places {i = b.at} (omega (arith, b.sized, at)) in
       record {
         gone = [];
-        count = none;
+        noted = λ earlier k. rw same k;
         on = λ back d. rw p refl;
         on_stopped = λ back d. rw p refl;
         back = a.back;
@@ -73,11 +80,11 @@ module _ (ns : List ℕ) (before : List ℕ → List ℕ → Run) where
       }
 
   module _ (after : List ℕ → List ℕ → Run) (b : Back) where
-    pub walking_ends : Walking ns [] before after b → b.removed ≤ length ns → WalkEnds ns before after b
+    pub walking_ends : Walking ns [] m before after b → b.removed.count ≤ m.count + length ns → WalkEnds ns m before after b
     unfolding walk_by
-    walking_ends g few = record { gone = g.gone; count = g.count; few = few; is = g.on }
+    walking_ends g few = record { gone = g.gone; removed = g.noted; few = few; is = g.on }
 
-    module _ (n : ℕ) (rest : List ℕ) (g : Walking ns (n ∷ rest) before after b) where
+    module _ (n : ℕ) (rest : List ℕ) (g : Walking ns (n ∷ rest) m before after b) where
       pub place_visitable : Visitable n (after (places b ++ g.back) (g.gone ++ g.removed))
       place_visitable = visitable_first n rest (after (places b ++ g.back) (g.gone ++ g.removed)) g.visitable
 
@@ -104,22 +111,23 @@ module _ (ns : List ℕ) (before : List ℕ → List ℕ → Run) where
               stop = λ back d. stop_on back d _ (k.outcome (places b ++ back) (g.gone ++ d)) ∙ k.stop (places b ++ back) (g.gone ++ d);
             }
 
-        pub walking_more : (v : Visited) (b' : Back) → Noted n v b b' → Comes simplify_ir_node_orders n after after' (Ok v) → Walking ns rest before after' b'
+        pub walking_more : n < 32 → (v : Visited) (b' : Back) → Noted n v b b' → Comes simplify_ir_node_orders n after after' (Ok v)
+            → Walking ns rest m before after' b'
         unfolding ◌then◌
-        walking_more Visited.Settled b' (p, at, same) k =
+        walking_more h Visited.Settled b' (p, at, same) k =
             record {
               gone = g.gone;
-              count = same ∙ g.count;
+              noted = λ earlier j. rw same (g.noted earlier j);
               on = λ back d. rw p (walk_on back d _ (k.outcome (places b ++ back) (g.gone ++ d)));
               on_stopped = λ back d. rw p (stop_on back d _ (k.outcome (places b ++ back) (g.gone ++ d)));
               back = g.back;
               removed = g.removed;
               visitable = rw p (visitable_next n rest _ _ g.visitable (k.outcome (places b ++ g.back) (g.gone ++ g.removed)));
             }
-        walking_more Visited.Removed b' (p, at, one) k =
+        walking_more h Visited.Removed b' (p, at, one) k =
             record {
               gone = n ∷ g.gone;
-              count = omega (arith, one, g.count);
+              noted = λ earlier j. one_more (g.gone ++ earlier) b.removed b'.removed n h one (g.noted earlier j);
               on = λ back d. rw p (walk_on back d _ (k.outcome (places b ++ back) (g.gone ++ d)));
               on_stopped = λ back d. rw p (stop_on back d _ (k.outcome (places b ++ back) (g.gone ++ d)));
               back = g.back;
@@ -128,13 +136,18 @@ module _ (ns : List ℕ) (before : List ℕ → List ℕ → Run) where
             }
 
     -- the places from the i-th on are left: the next is the i-th
-    pub at_place : (i : ℕ) → i < length ns → Walking ns (drop i ns) before after b → Walking ns (get_or ns i 0 ∷ drop (i + 1) ns) before after b
+    pub at_place : (i : ℕ) → i < length ns → Walking ns (drop i ns) m before after b
+        → Walking ns (get_or ns i 0 ∷ drop (i + 1) ns) m before after b
     at_place i h g =
         let e : i + 1 ≡ suc i = omega arith in
-        subst (λ (x : List ℕ). Walking ns x before after b) (drop-cons ns i 0 h ∙ ap (λ (k : ℕ). get_or ns i 0 ∷ drop k ns) (sym e)) g
+        subst (λ (x : List ℕ). Walking ns x m before after b) (drop-cons ns i 0 h ∙ ap (λ (k : ℕ). get_or ns i 0 ∷ drop k ns) (sym e)) g
 
--- what is noted of a visit stays within the array
-pub noted_fits : (n : ℕ) (v : Visited) (b b' : Back) (i : ℕ) → Noted n v b b' → 288 ≤ b.at + i → b.removed ≤ i
-    → (288 ≤ b'.at + (i + 1)) × (b'.removed ≤ i + 1)
-noted_fits n Visited.Settled b b' i (p, at, same) h k = (omega (arith, at), omega (arith, same))
-noted_fits n Visited.Removed b b' i (p, at, one) h k = (omega (arith, at), omega (arith, one))
+-- what is noted of a visit stays within the array, and is counted once
+pub noted_fits : (n : ℕ) (v : Visited) (b b' : Back) (m : Removed) (i : ℕ) → Noted n v b b' → 288 ≤ b.at + i → b.removed.count ≤ m.count + i
+    → (288 ≤ b'.at + (i + 1)) × (b'.removed.count ≤ m.count + (i + 1))
+noted_fits n Visited.Settled b b' m i (p, at, same) h k = (omega (arith, at), omega (arith, ap (λ (x : Removed). x.count) same, k))
+noted_fits n Visited.Removed b b' m i (p, at, one) h k = (omega (arith, at), omega (arith, one.count, k))
+
+-- a step that is visited is one of the 32 that may be marked
+pub step_small : (r : StoredRun) (ends back removed : List ℕ) (n : ℕ) → Visitable n (run_of r ends back removed) → n < 32
+step_small r ends back removed n v = omega (arith, v.step, length_steps r.steps.bytes r.steps.count, r.steps.held.few)

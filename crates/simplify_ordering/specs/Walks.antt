@@ -13,6 +13,8 @@ use Rattle.simplify_ordering.specs.declared.back.Back.{Back}
 use Rattle.simplify_ordering.specs.declared.run.StoredRun.{StoredRun}
 use Rattle.simplify_ordering.specs.declared.visit.Visited.{Visited}
 use Rattle.storage.specs.Held.{arena_in, steps_in, edges_in}
+use Rattle.storage.specs.Removed.{RemovedAre, OneMore}
+use Rattle.storage.specs.declared.removed.Removed.{Removed}
 use Rattle.simplify_ordering.specs.Run.{stopped_at}
 
 -- One place ----------------------------------------------------------------------------------------------------------------------------
@@ -24,7 +26,7 @@ places b = drop b.at b.places
 -- the visit to n is noted: b before, b' after
 abbrev pub Noted : ℕ → Visited → Back → Back → Type 0
 Noted n Visited.Settled b b' = (places b' ≡ n ∷ places b) × (b'.at + 1 ≡ b.at) × (b'.removed ≡ b.removed)
-Noted n Visited.Removed b b' = (places b' ≡ places b) × (b'.at ≡ b.at) × (b'.removed ≡ b.removed + 1)
+Noted n Visited.Removed b b' = (places b' ≡ places b) × (b'.at ≡ b.at) × OneMore n b.removed b'.removed
 
 -- A walk along the places ns ------------------------------------------------------------------------------------------------------------
 
@@ -43,11 +45,12 @@ unfoldable pub walk_stopped : List ℕ → Run → Run
 walk_stopped [] r = r
 walk_stopped (n ∷ ns) r = or_stopped n r (simplify_ir_node_orders n r) (λ r'. walk_stopped ns r')
 
--- It came to its end, and b is what it answers: `gone` are the sorts that it removed;
-pub record WalkEnds (ns : List ℕ) (before after : List ℕ → List ℕ → Run) (b : Back) : Type 0 where
+-- It came to its end, and b is what it answers: `gone` are the sorts that it removed, and were `earlier` those removed before it (as m
+-- says), then b has both;
+pub record WalkEnds (ns : List ℕ) (m : Removed) (before after : List ℕ → List ℕ → Run) (b : Back) : Type 0 where
   pub gone : List ℕ
-  pub count : b.removed ≡ length gone
-  pub few : b.removed ≤ length ns
+  pub removed : (earlier : List ℕ) → RemovedAre earlier m → RemovedAre (gone ++ earlier) b.removed
+  pub few : b.removed.count ≤ m.count + length ns
   pub is : (back removed : List ℕ) → walk ns (before back removed) ≡ done (after (places b ++ back) (gone ++ removed))
 
 -- or it was refused: `pushed` are the places that it would have gone back along
@@ -57,9 +60,9 @@ pub record WalkStops (ns : List ℕ) (before after : List ℕ → List ℕ → R
   pub is : (back removed : List ℕ) → walk ns (before back removed) ≡ refused (refusal_number e)
   pub stop : (back removed : List ℕ) → walk_stopped ns (before back removed) ≡ after (pushed ++ back) (gone ++ removed)
 
-abbrev pub WalkGives : List ℕ → (before after : List ℕ → List ℕ → Run) → Result Back Refusal → Type 0
-WalkGives ns before after (Ok b) = WalkEnds ns before after b
-WalkGives ns before after (Err e) = WalkStops ns before after e
+abbrev pub WalkGives : List ℕ → Removed → (before after : List ℕ → List ℕ → Run) → Result Back Refusal → Type 0
+WalkGives ns m before after (Ok b) = WalkEnds ns m before after b
+WalkGives ns m before after (Err e) = WalkStops ns before after e
 
 -- Both walks ------------------------------------------------------------------------------------------------------------------------------
 
@@ -82,9 +85,9 @@ stopped_by sh (done half) = walk_stopped half.back half
 unfoldable pub fetch_stopped : Sheet → Run
 fetch_stopped sh = stopped_by sh (down sh)
 
--- the code's answer against the definition's outcome: how many sorts were removed, or a refusal, and what the walks leave then.
+-- the code's answer against the definition's outcome: which sorts were removed, or a refusal, and what the walks leave then.
 -- `after` gives the run that they leave from the two lists that the code does not hold
-abbrev pub FetchGives : Sheet → (List ℕ → List ℕ → Run) → Result ℕ Refusal → Type 0
-FetchGives sh after (Ok n) = (back : List ℕ) × (gone : List ℕ) × (simplify_and_fetch_orderings sh ≡ done (after back gone)) × (n ≡ length gone)
+abbrev pub FetchGives : Sheet → (List ℕ → List ℕ → Run) → Result Removed Refusal → Type 0
+FetchGives sh after (Ok m) = (back : List ℕ) × (gone : List ℕ) × (simplify_and_fetch_orderings sh ≡ done (after back gone)) × RemovedAre gone m
 FetchGives sh after (Err e) =
     (simplify_and_fetch_orderings sh ≡ refused (refusal_number e)) × ((back : List ℕ) × (removed : List ℕ) × (after back removed ≡ fetch_stopped sh))

@@ -10,16 +10,23 @@ use crate::run::StoredRun;
 use crate::visit::simplify_ir_node_orders;
 use plan::refusal::Refusal;
 use plan::tally::Tally;
+use storage::removed::Removed;
 
-// Along the places of `list`, until one is refused.
-fn walk(run: &mut StoredRun, ends: &[u8; 544], list: &[u8]) -> Result<Back, Refusal>
+// Along the places of `list`, until one is refused. `removed` are the sorts that went before.
+fn walk(
+    run: &mut StoredRun,
+    ends: &[u8; 544],
+    list: &[u8],
+    removed: Removed,
+) -> Result<Back, Refusal>
     requires few { length list.now ≤ 288 }
+    requires few_removed { removed.count ≤ 288 }
     requires rows { InRows ends.now run.old.edges.count run.old.steps.count }
     requires asks { WalkAsks list.now (run_of run.old ends.now) }
-    ensures gives { WalkGives list.now (run_of run.old ends.now) (run_of run.new ends.now) result }
+    ensures gives { WalkGives list.now removed (run_of run.old ends.now) (run_of run.new ends.now) result }
     ensures same_size { SameSize run.old run.new }
 {
-    let mut back = Back::new();
+    let mut back = Back::new(removed);
     for n in list {
         let visited = simplify_ir_node_orders(run, ends, *n)?;
         back.note(*n, visited);
@@ -27,12 +34,12 @@ fn walk(run: &mut StoredRun, ends: &[u8; 544], list: &[u8]) -> Result<Back, Refu
     Ok(back)
 }
 
-// Along the visiting list, then back over it, but for the sorts removed on the way down. Answers how many sorts were removed.
+// Along the visiting list, then back over it, but for the sorts removed on the way down. Answers which sorts were removed.
 pub fn simplify_and_fetch_orderings(
     run: &mut StoredRun,
     ends: &[u8; 544],
     list: &[u8],
-) -> Result<usize, Refusal>
+) -> Result<Removed, Refusal>
     requires { FetchAsks run.old ends.now list.now }
     ensures { FetchGives (sheet_of run.old) (run_of run.new ends.now) result }
 {
@@ -40,8 +47,8 @@ pub fn simplify_and_fetch_orderings(
         visits: 0,
         looks: 0,
     };
-    let down = walk(run, ends, list)?;
+    let down = walk(run, ends, list, Removed::new())?;
     let at = down.at;
-    let up = walk(run, ends, &down.places[at..])?;
-    Ok(down.removed + up.removed)
+    let up = walk(run, ends, &down.places[at..], down.removed)?;
+    Ok(up.removed)
 }

@@ -10,3 +10,4 @@ pub mod ExprLaws
 pub mod Written
 pub mod Starts
 pub mod LineLaws
+pub mod RemovedLaws

@@ -7,3 +7,4 @@ pub mod Based
 pub mod Start
 pub mod Held
 pub mod Lines
+pub mod Removed

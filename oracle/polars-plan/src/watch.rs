@@ -14,6 +14,8 @@ pub struct Tally {
     pub looks: u64,
     /// Calls of `unlink_node`.
     pub removed: u64,
+    /// The steps that they were called for, a bit for each: a sheet has 32 at most.
+    pub removed_steps: u32,
     /// The step of the latest visit.
     pub step: Option<Node>,
 }
@@ -36,6 +38,7 @@ thread_local! {
     static VISITS: Cell<u64> = const { Cell::new(0) };
     static LOOKS: Cell<u64> = const { Cell::new(0) };
     static REMOVED: Cell<u64> = const { Cell::new(0) };
+    static REMOVED_STEPS: Cell<u32> = const { Cell::new(0) };
     static STEP: Cell<Option<Node>> = const { Cell::new(None) };
     /// There if lists are to be kept.
     static LISTS: RefCell<Option<Vec<ListLook>>> = const { RefCell::new(None) };
@@ -46,12 +49,19 @@ pub fn reset(keep_lists: bool) {
     VISITS.set(0);
     LOOKS.set(0);
     REMOVED.set(0);
+    REMOVED_STEPS.set(0);
     STEP.set(None);
     LISTS.set(keep_lists.then(Vec::new));
 }
 
 pub fn tally() -> Tally {
-    Tally { visits: VISITS.get(), looks: LOOKS.get(), removed: REMOVED.get(), step: STEP.get() }
+    Tally {
+        visits: VISITS.get(),
+        looks: LOOKS.get(),
+        removed: REMOVED.get(),
+        removed_steps: REMOVED_STEPS.get(),
+        step: STEP.get(),
+    }
 }
 
 /// The lists kept since the run began.
@@ -68,8 +78,9 @@ pub(crate) fn look() {
     LOOKS.set(LOOKS.get() + 1);
 }
 
-pub(crate) fn removal() {
+pub(crate) fn removal(step: Node) {
     REMOVED.set(REMOVED.get() + 1);
+    REMOVED_STEPS.set(REMOVED_STEPS.get() | 1 << step.0);
 }
 
 pub(crate) fn looks() -> u64 {

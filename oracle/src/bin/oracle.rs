@@ -2,11 +2,12 @@
 use std::io::{self, BufWriter, Read, Write};
 use std::process::ExitCode;
 
-use oracle::run::Stop;
+use oracle::run::{Finished, Stop};
+use oracle::sheet::Sheet;
 use oracle::{batch, views};
 
 const HELP: &str = "\
-oracle [--batch] [--out-len N] [--unchecked] [--list | --graph] < sheet
+oracle [--batch] [--out-len N] [--unchecked] [--paper | --list | --graph] < sheet
 
 Prints the finished sheet, or R,n for a refusal.
 
@@ -15,6 +16,7 @@ Prints the finished sheet, or R,n for a refusal.
              can't be carried. Bytes after the last mark are one more sheet. Each answer is followed by the mark.
 --out-len N  Answers as if the output lent had N bytes; 16384 unless given.
 --unchecked  Leaves out 7 to 9, 12 and 13, which the Rust does not check: shows what it makes of such a sheet. It may panic, or not end.
+--paper      Prints the right paper: the P lines as finished, then a G line for each edge whose consumer was not removed.
 --list       Prints, for each list of expressions that is looked at, L,visit,step,allow,answer,observed,looks and the
              list's entries, then the E lines as they stand after it. Visits count from 1. allow is 1 if the last
              look may remove sorts at the top. answer and observed add 1 for COLUMN and 2 for INDEPENDENT; observed is
@@ -26,6 +28,7 @@ A panic other than the assertions behind 10 and 11 is told on standard error wit
 
 enum View {
     Finished,
+    Paper,
     Lists,
     Graph,
 }
@@ -69,6 +72,7 @@ fn options() -> Result<Option<Options>, String> {
         match word.as_str() {
             "--batch" => options.batch = true,
             "--unchecked" => options.unchecked = true,
+            "--paper" => options.view = View::Paper,
             "--list" => options.view = View::Lists,
             "--graph" => options.view = View::Graph,
             "--out-len" => {
@@ -128,9 +132,15 @@ fn text(sheet: &[u8], options: &Options) -> (Vec<u8>, Result<(), Stop>) {
     match options.view {
         View::Lists => views::lists(&sheet),
         View::Graph => (views::graph(&sheet), Ok(())),
-        View::Finished => match oracle::run::run(&sheet) {
-            Ok(finished) => (finished.text(), Ok(())),
-            Err(stop) => (vec![], Err(stop)),
-        },
+        View::Finished => run(&sheet, Finished::text),
+        View::Paper => run(&sheet, Finished::paper),
+    }
+}
+
+/// What is told of a run that comes to its end.
+fn run(sheet: &Sheet, told: impl Fn(&Finished) -> Vec<u8>) -> (Vec<u8>, Result<(), Stop>) {
+    match oracle::run::run(sheet) {
+        Ok(finished) => (told(&finished), Ok(())),
+        Err(stop) => (vec![], Err(stop)),
     }
 }

@@ -4,6 +4,7 @@ mod cpu_time;
 mod findings;
 mod generated;
 mod limits;
+mod papers;
 mod programs;
 mod reading;
 mod walks;

@@ -14,7 +14,21 @@ pub fn pattern() -> Vec<u8> {
     (0..LENT).map(|place| 128 + (place % 127) as u8).collect()
 }
 
-pub type Expected = Result<Vec<u8>, Stop>;
+/// What the Rust makes of a sheet.
+pub struct Finished {
+    pub text: Vec<u8>,
+    /// The right paper, by the Rust's own graph.
+    pub paper: Vec<u8>,
+    /// The steps that it removed, a bit for each.
+    pub removed: u32,
+}
+
+pub type Expected = Result<Finished, Stop>;
+
+pub fn expected(sheet: &[u8]) -> Expected {
+    let run = oracle::try_run(sheet, LENT)?;
+    Ok(Finished { text: run.text(), paper: run.paper(), removed: run.tally.removed_steps })
+}
 
 /// A sheet, and what the Rust answers.
 pub struct Asked<'a> {
@@ -36,7 +50,7 @@ impl Asked<'_> {
     fn finishes(&self, out: &mut [u8], show: bool) -> bool {
         out.copy_from_slice(self.pattern);
         let answer = finish_into(self.sheet, out);
-        let length = self.expected.as_ref().map_or(0, Vec::len);
+        let length = self.expected.as_ref().map_or(0, |finished| finished.text.len());
         self.agrees(answer, length, out, show)
     }
 
@@ -53,7 +67,7 @@ impl Asked<'_> {
     /// Is the answer the wanted one, or the Rust's refusal, and the output as it has to be? If not, that is shown where asked for.
     fn agrees<T: PartialEq + Debug>(&self, answer: Result<T, Refusal>, wanted: T, out: &[u8], show: bool) -> bool {
         let agrees = match (self.expected, &answer) {
-            (Ok(text), Ok(answer)) => *answer == wanted && self.output_is(out, text),
+            (Ok(finished), Ok(answer)) => *answer == wanted && self.output_is(out, &finished.text),
             (Err(Stop::Refused(number)), Err(refusal)) => refusal.number() == *number && self.output_is(out, &[]),
             _ => false,
         };
@@ -71,7 +85,7 @@ impl Asked<'_> {
     fn show(&self, answer: &impl Debug, out: &[u8]) {
         println!("sheet {} differs\n{}", self.name, self.sheet.escape_ascii());
         match self.expected {
-            Ok(text) => println!("expected, {} bytes\n{}", text.len(), text.escape_ascii()),
+            Ok(Finished { text, .. }) => println!("expected, {} bytes\n{}", text.len(), text.escape_ascii()),
             Err(Stop::Refused(number)) => println!("expected R,{number}"),
             Err(Stop::Panicked(report)) => println!("the Rust panicked: {report}"),
         }

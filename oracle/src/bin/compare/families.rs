@@ -4,7 +4,7 @@ use std::time::{Duration, Instant};
 use oracle::cpu_time::{NO_ROUND, least};
 use oracle::generate::{Family, sheet};
 
-use crate::asked::{Asked, LENT, pattern};
+use crate::asked::{Asked, expected, pattern};
 use crate::turns::{Outputs, TURN, each};
 
 /// One of so many turns is timed, so that comparing many sheets does not take much longer for it.
@@ -26,7 +26,7 @@ impl Totals {
     /// Compares the sheet that comes next, and counts it.
     fn count(&mut self, sheet: &[u8], pattern: &[u8], out: &mut [u8]) {
         let number = self.compared;
-        let expected = &oracle::try_finish(sheet, LENT);
+        let expected = &expected(sheet);
         let asked = Asked { name: &number, number, sheet, expected, pattern };
 
         self.different += u64::from(!asked.all_agree(out, self.different == 0));

@@ -20,8 +20,8 @@ compare worst [FOLDER]
 
 Finishes sheets by the port and by the Rust, each from bytes to bytes. Compares the answers and every byte of the output that is
 lent to the port, which is longer than it has to be and filled with a pattern beforehand. Then has the port mark three papers
-against each sheet, the P lines and then the G lines of the Rust's answer, these with one byte changed, and one altered in another
-way, and compares the marks and the output likewise. Shows the first difference whole. The status is 0 if there is none, 1 if
+against each sheet: the right one, which is the Rust's P lines and then a G line for each edge of its graph whose consumer it did
+not remove; that paper with one byte changed; and one altered in another way. Compares the marks and the output likewise. Shows the first difference whole. The status is 0 if there is none, 1 if
 there is one, 2 for other words or a folder without plans.
 
 With a family: the COUNT sheets of `gen FAMILY SEED COUNT`. One turn of {calls} sheets in {one_of} is finished again to be timed, in

@@ -5,7 +5,7 @@ use std::{fs, io};
 use oracle::cpu_time::{NO_ROUND, Round, least};
 use oracle::run::Stop;
 
-use crate::asked::{Asked, Expected, LENT, pattern};
+use crate::asked::{Asked, Expected, expected, pattern};
 use crate::turns::{Outputs, TURN, each};
 
 /// make_worst.py makes these.
@@ -31,7 +31,7 @@ fn plans(folder: &Path) -> io::Result<Vec<Plan>> {
         if path.is_file() {
             let name = path.file_name().unwrap_or_default().to_string_lossy().into_owned();
             let sheet = fs::read(path)?;
-            let expected = oracle::try_finish(&sheet, LENT);
+            let expected = expected(&sheet);
             plans.push(Plan { name, sheet, expected, agrees: false, times: NO_ROUND });
         }
     }
@@ -83,8 +83,8 @@ impl Plan {
     /// The visits and looks of the T line, or the refusal.
     fn answer(&self) -> String {
         match &self.expected {
-            Ok(text) => {
-                let text = String::from_utf8_lossy(text);
+            Ok(finished) => {
+                let text = String::from_utf8_lossy(&finished.text);
                 let mut numbers = text.trim_end().rsplit(',');
                 let (looks, visits) = (numbers.next().unwrap_or(""), numbers.next().unwrap_or(""));
                 format!("{visits} visits, {looks} looks")

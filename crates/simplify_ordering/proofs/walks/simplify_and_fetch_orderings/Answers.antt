@@ -14,14 +14,14 @@ returns-in_err-down c =
 
 pub walk-requires-2-clause-asks : goal.walk-requires-2-clause-asks
 walk-requires-2-clause-asks c =
-    up_asks c.args.run.now c.args.ends.now _ c.requires (run_of c.walk.new.run c.args.ends.now) (λ back gone. refl) c.in_ok-down.down c.in_ok-down.ensures.gives
+    up_asks c.args.run.now c.args.ends.now _ c.requires (run_of c.walk.new.run c.args.ends.now) (λ back gone. refl) c.new.result c.new.ensures c.in_ok-down.down c.in_ok-down.ensures.gives
 
 pub returns-in_err-up : goal.returns-in_err-up
 returns-in_err-up c =
     let p = err_from_is_err_and c.from_residual-in_err-up.result c.from_residual-in_err-up.ensures.1 in
     rw (p.1, p.2)
-    (up_stopped c.args.run.now c.args.ends.now _ c.requires (run_of c.walk.new.run c.args.ends.now) (λ back gone. refl) c.in_ok-down.down c.in_ok-down.ensures.gives (run_of c.walk-2.new.run c.args.ends.now) _ (to_the_end c.in_ok-down.down) _ c.in_err-up.ensures.gives)
+    (up_stopped c.args.run.now c.args.ends.now _ c.requires (run_of c.walk.new.run c.args.ends.now) (λ back gone. refl) c.new.result c.new.ensures c.in_ok-down.down c.in_ok-down.ensures.gives (run_of c.walk-2.new.run c.args.ends.now) _ (to_the_end c.in_ok-down.down) _ c.in_err-up.ensures.gives)
 
 pub returns : goal.returns
 returns c =
-    up_ended c.args.run.now c.args.ends.now _ c.requires (run_of c.walk.new.run c.args.ends.now) (λ back gone. refl) c.in_ok-down.down c.in_ok-down.ensures.gives (run_of c.walk-2.new.run c.args.ends.now) _ (to_the_end c.in_ok-down.down) c.in_ok-up.up c.in_ok-up.ensures.gives
+    up_ended c.args.run.now c.args.ends.now _ c.requires (run_of c.walk.new.run c.args.ends.now) (λ back gone. refl) c.new.result c.new.ensures c.in_ok-down.down c.in_ok-down.ensures.gives (run_of c.walk-2.new.run c.args.ends.now) _ (to_the_end c.in_ok-down.down) c.in_ok-up.up c.in_ok-up.ensures.gives

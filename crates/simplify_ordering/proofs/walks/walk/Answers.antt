@@ -1,37 +1,46 @@
-use mathlib.Core.Path.{refl, ◌∙◌}
+use mathlib.Core.Path.{refl, ap, ◌∙◌}
 use native.Mathlib.Omega.{arith}
 use lib.ListN.{drop_of_length-le}
 use Rattle.std.proofs.lemmas.Result.{err_from_is_err_and}
 use Rattle.simplify_ordering.specs.Held.{run_of}
-use Rattle.simplify_ordering.proofs.WalkLaws.{visitable_apart, walking_none, walking_ends, place_visitable, walking_stops, walking_more, at_place, noted_fits}
+use Rattle.storage.specs.declared.removed.Removed.{Removed}
+use Rattle.simplify_ordering.proofs.WalkLaws.{visitable_apart, walking_none, walking_ends, place_visitable, walking_stops, walking_more, at_place, noted_fits, step_small}
 use Rattle.simplify_ordering.proofs.walks.walk.Goals as goal
 
 pub loop-n-init : goal.loop-n-init
 loop-n-init c =
     record {
       same_size = (refl, refl);
-      walking = walking_none _ (run_of c.args.run.now c.args.ends.now) c.requires.asks c.new-back.result c.new-back.ensures.none c.new-back.ensures.none_removed;
+      walking = walking_none _ c.args.removed (run_of c.args.run.now c.args.ends.now) c.requires.asks c.new-back.result c.new-back.ensures.none c.new-back.ensures.removed;
       stored = omega (arith, c.new-back.ensures.none);
-      counted = omega (arith, c.new-back.ensures.none_removed);
+      counted = omega (arith, ap (λ (x : Removed). x.count) c.new-back.ensures.removed);
     }
 
+-- the step at this place is one of the plan's
 pub simplify_ir_node_orders-requires-clause-visitable : goal.simplify_ir_node_orders-requires-clause-visitable
 simplify_ir_node_orders-requires-clause-visitable c =
     let before = run_of c.args.run.now c.args.ends.now in
     let after = run_of c.loop-n.run c.args.ends.now in
-    let g = at_place c.args.list.now before after c.loop-n.back c.loop-n.n-index c.loop-n-test.true c.loop-n.invariant.walking in
-    visitable_apart _ _ _ refl refl refl refl (place_visitable c.args.list.now before after c.loop-n.back _ _ g)
+    let g = at_place c.args.list.now c.args.removed before after c.loop-n.back c.loop-n.n-index c.loop-n-test.true c.loop-n.invariant.walking in
+    visitable_apart _ _ _ refl refl refl refl (place_visitable c.args.list.now c.args.removed before after c.loop-n.back _ _ g)
+
+pub note-requires-clause-step : goal.note-requires-clause-step
+note-requires-clause-step c =
+    let before = run_of c.args.run.now c.args.ends.now in
+    let after = run_of c.loop-n.run c.args.ends.now in
+    let g = at_place c.args.list.now c.args.removed before after c.loop-n.back c.loop-n.n-index c.loop-n-test.true c.loop-n.invariant.walking in
+    step_small c.loop-n.run c.args.ends.now _ _ _ (place_visitable c.args.list.now c.args.removed before after c.loop-n.back _ _ g)
 
 pub returns-in_err-visited : goal.returns-in_err-visited
 returns-in_err-visited c =
     let before = run_of c.args.run.now c.args.ends.now in
     let after = run_of c.loop-n.run c.args.ends.now in
-    let g = at_place c.args.list.now before after c.loop-n.back c.loop-n.n-index c.loop-n-test.true c.loop-n.invariant.walking in
+    let g = at_place c.args.list.now c.args.removed before after c.loop-n.back c.loop-n.n-index c.loop-n-test.true c.loop-n.invariant.walking in
     let k = c.in_err-visited.ensures in
     let p = err_from_is_err_and c.from_residual.result c.from_residual.ensures.1 in
     rw (p.1, p.2)
     (record {
-      gives = walking_stops c.args.list.now before after c.loop-n.back _ _ g (run_of c.simplify_ir_node_orders.new.run c.args.ends.now) _ k.comes;
+      gives = walking_stops c.args.list.now c.args.removed before after c.loop-n.back _ _ g (run_of c.simplify_ir_node_orders.new.run c.args.ends.now) _ k.comes;
       same_size = (k.same_size.0 ∙ c.loop-n.invariant.same_size.0, k.same_size.1 ∙ c.loop-n.invariant.same_size.1);
     })
 
@@ -39,12 +48,13 @@ pub loop-n-preserved : goal.loop-n-preserved
 loop-n-preserved c =
     let before = run_of c.args.run.now c.args.ends.now in
     let after = run_of c.loop-n.run c.args.ends.now in
-    let g = at_place c.args.list.now before after c.loop-n.back c.loop-n.n-index c.loop-n-test.true c.loop-n.invariant.walking in
+    let g = at_place c.args.list.now c.args.removed before after c.loop-n.back c.loop-n.n-index c.loop-n-test.true c.loop-n.invariant.walking in
     let k = c.in_ok-visited.ensures in
-    let fits = noted_fits _ c.in_ok-visited.visited c.loop-n.back c.note.new.self c.loop-n.n-index c.note.ensures c.loop-n.invariant.stored c.loop-n.invariant.counted in
+    let small = step_small c.loop-n.run c.args.ends.now _ _ _ (place_visitable c.args.list.now c.args.removed before after c.loop-n.back _ _ g) in
+    let fits = noted_fits _ c.in_ok-visited.visited c.loop-n.back c.note.new.self c.args.removed c.loop-n.n-index c.note.ensures c.loop-n.invariant.stored c.loop-n.invariant.counted in
     record {
       same_size = (k.same_size.0 ∙ c.loop-n.invariant.same_size.0, k.same_size.1 ∙ c.loop-n.invariant.same_size.1);
-      walking = walking_more c.args.list.now before after c.loop-n.back _ _ g (run_of c.simplify_ir_node_orders.new.run c.args.ends.now) c.in_ok-visited.visited c.note.new.self c.note.ensures k.comes;
+      walking = walking_more c.args.list.now c.args.removed before after c.loop-n.back _ _ g (run_of c.simplify_ir_node_orders.new.run c.args.ends.now) small c.in_ok-visited.visited c.note.new.self c.note.ensures k.comes;
       stored = fits.0;
       counted = fits.1;
     }
@@ -52,4 +62,4 @@ loop-n-preserved c =
 pub returns-clause-gives : goal.returns-clause-gives
 returns-clause-gives c =
     let none = drop_of_length-le c.args.list.now {i = c.loop-n.n-index} (omega (arith, c.loop-n-test.false)) in
-    walking_ends c.args.list.now _ (run_of c.loop-n.run c.args.ends.now) c.loop-n.back (rw none at c.loop-n.invariant.walking) (omega (arith, c.loop-n.invariant.counted))
+    walking_ends c.args.list.now c.args.removed _ (run_of c.loop-n.run c.args.ends.now) c.loop-n.back (rw none at c.loop-n.invariant.walking) (omega (arith, c.loop-n.invariant.counted))

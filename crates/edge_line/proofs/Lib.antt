@@ -1,0 +1,2 @@
+pub mod EdgeLines
+pub mod LinesOf
