@@ -75,8 +75,8 @@ module _ (s : List ℕ) (whole : Run) (runs : run s ≡ done whole) (sh : Sheet)
         same = λ k h. subst (λ (l : List Edge). SamePlace (get_or made k no_edge) (get_or l k no_edge)) same (end.same k h);
       }
 
-  pub kept_edge : (d : Edge) → Memᴰ d made → (d' : Edge) × Memᴰ d' whole.edges × SamePlace d d'
-  kept_edge d m =
+  pub edge_stays : (d : Edge) → Memᴰ d made → (d' : Edge) × Memᴰ d' whole.edges × SamePlace d d'
+  edge_stays d m =
       let (k, h, e) = place_of made no_edge d m in (
         edge_at k whole,
         mem_at whole.edges k no_edge (omega (arith, placed.long, h)),
@@ -136,11 +136,11 @@ module _ (s : List ℕ) (whole : Run) (runs : run s ≡ done whole) (sh : Sheet)
   not_both_kinds : {k : IR} → k ≡ IR.Sink → k ≡ IR.Sort → ⊥
   not_both_kinds e f = cc
 
-  pub edge_kept : (d : Edge) × Memᴰ d whole.edges × (¬ Memᴰ d.consumer whole.removed)
-  edge_kept =
+  pub some_consumer_stays : (d : Edge) × Memᴰ d whole.edges × (¬ Memᴰ d.consumer whole.removed)
+  some_consumer_stays =
       let (n, m) = sink_there ps (omega (arith, (placed s whole runs sh accepted).long, some_edge s whole runs)) in
       let (d, i, t) = edge_into n m in
-      let (d', j, same) = kept_edge s whole runs sh accepted d i in
+      let (d', j, same) = edge_stays s whole runs sh accepted d i in
       let is : d'.consumer ≡ n = same.consumer ∙ eqb→eq d.consumer n t in (
         d',
         j,

@@ -4,7 +4,7 @@ use Rattle.plan.specs.declared.answer.Finished.{Finished}
 use Rattle.plan.specs.declared.refusal.Refusal.{Refusal}
 use Rattle.plan.specs.Refusals.{refusal_number}
 use Rattle.plan.specs.Finished.{Called, finished_answer}
-use Rattle.plan.specs.Sheet.{Sheet, Outcome, refused, done, ◌then◌}
+use Rattle.plan.specs.Sheet.{Sheet, Outcome, refused, done}
 use Rattle.plan.specs.Text.{printed}
 use Rattle.plan.specs.Visit.{Run}
 use Rattle.storage.specs.declared.removed.Removed.{Removed}
@@ -21,7 +21,8 @@ call r output = record { answer = r; output = output }
 
 -- its answer without what is reported beside it
 abbrev pub finished_of : Outcome Report → Outcome Finished
-finished_of o = o then λ r. done r.finished
+finished_of (done r) = done r.finished
+finished_of (refused n) = refused n
 
 -- m says which sorts were removed, by either walk, in the run that was made
 pub record RemovedIn (o : Outcome Run) (m : Removed) : Type 0 where

@@ -18,7 +18,7 @@ use Rattle.claims.proofs.Ends.{accepted_by}
 use Rattle.claims.proofs.WithinLimits.{within_limits}
 use Rattle.storage.specs.declared.removed.Removed.{Removed}
 use Rattle.storage.specs.Removed.{RemovedAre}
-use Rattle.marking.specs.Examined.{unmarked, unmarked_lines}
+use Rattle.marking.specs.Unmarked.{unmarked, unmarked_lines}
 use Rattle.marking.specs.Marking.{examined, examined_block}
 
 pub short_edges : (s : List ℕ) (whole : Run) → run s ≡ done whole → (d : Edge) → Memᴰ d whole.edges → ShortEdge d

@@ -17,7 +17,7 @@ use Rattle.edge_line.specs.declared.EdgeLine.{EdgeLine}
 use Rattle.edge_line.specs.EdgeLine.{Begins, said_of, LinesOf}
 use Rattle.edge_line.proofs.LinesOf.{no_lines, first_line, lines_behind}
 use Rattle.storage.specs.declared.removed.Removed.{Removed}
-use Rattle.marking.specs.Examined.{unmarked_lines}
+use Rattle.marking.specs.Unmarked.{unmarked_lines}
 use Rattle.marking.proofs.Comparison.{front_same, front_differs}
 
 module _ (m : Removed) (d : Edge) (ds : List Edge) where

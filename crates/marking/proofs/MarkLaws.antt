@@ -21,7 +21,7 @@ use Rattle.claims.specs.Demand1.{FinishedCall, RefusedCall}
 use Rattle.claims.specs.Limits.{ShortEdge}
 use Rattle.claims.specs.WellFormed.{Accepted}
 use Rattle.claims.proofs.Demand1.{demand_1, number_range}
-use Rattle.claims.proofs.EdgePlaces.{edge_kept, kept_edge}
+use Rattle.claims.proofs.EdgePlaces.{some_consumer_stays, edge_stays}
 use Rattle.claims.proofs.Ends.{accepted_by}
 use Rattle.marking.specs.declared.answer.Mark.{Mark}
 use Rattle.marking.specs.Marking.{examined, examined_block, right_paper, HasLine, verdict, mark_of, marked, marked_run, mark_answer, Tellable, before_G, from_G, Examined, MarkingKept}
@@ -32,6 +32,7 @@ use Rattle.marking.proofs.HasStep.{has_step}
 use Rattle.marking.proofs.MarkWays.{never_both}
 use Rattle.marking.proofs.PaperBlocks.{both_blocks, before_lines, from_steps, some_byte, right_before, right_from}
 
+-- what is right passed the test
 if_right : (b : Bool) → done (verdict b) ≡ done Mark.Right → T b
 unfolding verdict
 if_right true e = tt
@@ -55,7 +56,7 @@ module _ (s output : List ℕ) (w : Run) (e : marked_run s output ≡ done w) wh
   unfolding examined_block edge_line
   has_g_line p =
       let (sh, accepted) = accepted_by s w finishes in
-      let (d, m, n) = edge_kept s w finishes sh accepted in
+      let (d, m, n) = some_consumer_stays s w finishes sh accepted in
       some_byte _ 71 (select (examined w) w.edges) (there (select (examined w) w.edges) d (is_examined w d m n)) p
     where
       there : (l : List Edge) (d : Edge) → Memᴰ d l → 1 ≤ length l
@@ -96,7 +97,7 @@ module _ (s output : List ℕ) (w : Run) (e : marked_run s output ≡ done w) wh
         → (marked s paper output).answer ≡ done Mark.Right → HasLine d paper
     unfolding edge_line
     other_edge sh accepted d m n right =
-        let (d', i, same) = kept_edge s w finishes sh accepted d m in
+        let (d', i, same) = edge_stays s w finishes sh accepted d m in
         let (before, behind, e) = has_its_line w d' i (λ k. n (subst (λ (x : ℕ). Memᴰ x w.removed) same.consumer k)) in
         record {
           before = before;

@@ -16,7 +16,7 @@ use Rattle.storage.specs.declared.removed.Removed.{Removed}
 use Rattle.edge_line.specs.EdgeLine.{LinesOf}
 use Rattle.engine.specs.Call.{call, RemovedIn}
 use Rattle.marking.specs.declared.answer.Mark.{Mark}
-use Rattle.marking.specs.Examined.{unmarked_lines}
+use Rattle.marking.specs.Unmarked.{unmarked_lines}
 use Rattle.marking.specs.Marking.{mark_call, examined_block, verdict, right_paper, mark_of, marked, marked_run}
 use Rattle.marking.proofs.ExaminedEdges.{short_edges, examined_are}
 

@@ -3,7 +3,7 @@ ghost use Rattle.std.specs.Prelude.{◌≡◌, List};
 ghost use Rattle.plan.specs.Graph.{Edge};
 ghost use Rattle.plan.specs.Lists.{same};
 ghost use Rattle.edge_line.specs.EdgeLine.{LinesOf};
-ghost use Rattle.marking.specs.Examined.{unmarked_lines};
+ghost use Rattle.marking.specs.Unmarked.{unmarked_lines};
 
 use edge_line::read_edge_line;
 use storage::removed::Removed;

@@ -6,7 +6,7 @@ ghost use Rattle.plan.specs.Graph.{Edge};
 ghost use Rattle.plan.specs.Lists.{same};
 ghost use Rattle.plan.specs.Refusals.{outcome_of};
 ghost use Rattle.edge_line.specs.EdgeLine.{LinesOf};
-ghost use Rattle.marking.specs.Examined.{unmarked_lines};
+ghost use Rattle.marking.specs.Unmarked.{unmarked_lines};
 ghost use Rattle.marking.specs.Marking.{mark_call, marked, verdict};
 
 use crate::answer::Mark;

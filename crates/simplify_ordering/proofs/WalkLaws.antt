@@ -17,15 +17,15 @@ use Rattle.simplify_ordering.specs.declared.visit.Visited.{Visited}
 use Rattle.simplify_ordering.specs.Held.{run_of}
 use Rattle.simplify_ordering.specs.Walks.{places, Noted, WalkAsks, or_stopped, walk_stopped, WalkEnds, WalkStops}
 use Rattle.simplify_ordering.specs.Run.{Comes}
+use Rattle.simplify_ordering.proofs.VisitLaws.{here_is}
 use Rattle.storage.specs.Removed.{RemovedAre}
 use Rattle.storage.specs.declared.removed.Removed.{Removed}
-use Rattle.storage.proofs.Laws.{length_steps}
 use Rattle.storage.proofs.RemovedLaws.{one_more}
 
 -- Along the places ---------------------------------------------------------------------------------------------------------------------
 
 -- a visit reads neither of the two lists
-pub visitable_apart : (n : ℕ) (r r' : Run) → r'.arena ≡ r.arena → r'.steps ≡ r.steps → r'.edges ≡ r.edges → r'.tally ≡ r.tally
+visitable_apart : (n : ℕ) (r r' : Run) → r'.arena ≡ r.arena → r'.steps ≡ r.steps → r'.edges ≡ r.edges → r'.tally ≡ r.tally
     → Visitable n r → Visitable n r'
 unfolding looked_in goes
 visitable_apart n r r' a s e l k =
@@ -85,7 +85,7 @@ module _ (ns : List ℕ) (m : Removed) (before : List ℕ → List ℕ → Run) 
     walking_ends g few = record { gone = g.gone; removed = g.noted; few = few; is = g.on }
 
     module _ (n : ℕ) (rest : List ℕ) (g : Walking ns (n ∷ rest) m before after b) where
-      pub place_visitable : Visitable n (after (places b ++ g.back) (g.gone ++ g.removed))
+      place_visitable : Visitable n (after (places b ++ g.back) (g.gone ++ g.removed))
       place_visitable = visitable_first n rest (after (places b ++ g.back) (g.gone ++ g.removed)) g.visitable
 
       walk_on : (back d : List ℕ) (o : Outcome Run) → simplify_ir_node_orders n (after (places b ++ back) (g.gone ++ d)) ≡ o
@@ -148,6 +148,13 @@ pub noted_fits : (n : ℕ) (v : Visited) (b b' : Back) (m : Removed) (i : ℕ) �
 noted_fits n Visited.Settled b b' m i (p, at, same) h k = (omega (arith, at), omega (arith, ap (λ (x : Removed). x.count) same, k))
 noted_fits n Visited.Removed b b' m i (p, at, one) h k = (omega (arith, at), omega (arith, one.count, k))
 
--- a step that is visited is one of the 32 that may be marked
-pub step_small : (r : StoredRun) (ends back removed : List ℕ) (n : ℕ) → Visitable n (run_of r ends back removed) → n < 32
-step_small r ends back removed n v = omega (arith, v.step, length_steps r.steps.bytes r.steps.count, r.steps.held.few)
+-- the step at the next place may be visited, and is one of the 32 that may be marked
+module _ (ns : List ℕ) (m : Removed) (before : List ℕ → List ℕ → Run) (r : StoredRun) (ends : List ℕ) (b : Back) (i : ℕ) (h : i < length ns)
+    (w : Walking ns (drop i ns) m before (run_of r ends) b) where
+  pub visitable_here : Visitable (get_or ns i 0) (run_of r ends [] [])
+  visitable_here =
+      let g = at_place ns m before (run_of r ends) b i h w in
+      visitable_apart _ _ _ refl refl refl refl (place_visitable ns m before (run_of r ends) b _ _ g)
+
+  pub step_small : get_or ns i 0 < 32
+  step_small = omega (arith, here_is r ends _ visitable_here, r.steps.held.few)

@@ -1,7 +1,7 @@
 use mathlib.Core.Path.{subst}
 use Rattle.std.proofs.lemmas.Result.{err_from_is_err_and}
 use Rattle.plan.specs.Refusals.{outcome_of}
-use Rattle.plan.specs.Sheet.{Outcome, ◌then◌}
+use Rattle.plan.specs.Sheet.{Outcome}
 use Rattle.plan.specs.Visit.{Run}
 use Rattle.simplify_ordering.specs.Walks.{sheet_of}
 use Rattle.engine.specs.Call.{finished_of, Reports}
@@ -9,11 +9,9 @@ use Rattle.engine.proofs.CallLaws.{short_call, turned_back, taken_call, taken_ru
 use Rattle.engine.proofs.finish_and_report.Goals as goal
 
 pub returns-then-out-lt16384 : goal.returns-then-out-lt16384
-unfolding ◌then◌
 returns-then-out-lt16384 c = record { out_after = short_call _ _ c.if-out-lt16384.true; reports = tt }
 
 pub returns-in_err-read_run : goal.returns-in_err-read_run
-unfolding ◌then◌
 returns-in_err-read_run c =
     let e = err_from_is_err_and c.from_residual.result c.from_residual.ensures.1 in
     rw (e.1, e.2)

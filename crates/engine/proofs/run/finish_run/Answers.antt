@@ -3,7 +3,6 @@ use Rattle.std.proofs.lemmas.Result.{err_from_is_err_and}
 use Rattle.claims.proofs.Plans.{plan_of}
 use Rattle.storage.proofs.Laws.{length_steps}
 use Rattle.ir_graph.proofs.FirstPass.{zeros}
-use Rattle.plan.specs.Sheet.{◌then◌}
 use Rattle.simplify_ordering.specs.Walks.{sheet_of}
 use Rattle.engine.proofs.RunLaws.{refused_call, finished_call}
 use Rattle.engine.proofs.run.finish_run.Goals as goal
@@ -25,13 +24,11 @@ simplify_and_fetch_orderings-requires c =
     })
 
 pub returns-in_err-removed : goal.returns-in_err-removed
-unfolding ◌then◌
 returns-in_err-removed c =
     let p = err_from_is_err_and c.from_residual.result c.from_residual.ensures.1 in
     rw (p.1, p.2) (record { out_after = refused_call (sheet_of c.args.run.now) c.args.out.now _ c.in_err-removed.ensures.0; reports = tt })
 
 pub returns : goal.returns
-unfolding ◌then◌
 returns c =
     let (back, gone, ends, are) = c.in_ok-removed.ensures in
     record {

@@ -4,7 +4,7 @@ use lib.ListN.{drop_of_length-le}
 use Rattle.std.proofs.lemmas.Result.{err_from_is_err_and}
 use Rattle.simplify_ordering.specs.Held.{run_of}
 use Rattle.storage.specs.declared.removed.Removed.{Removed}
-use Rattle.simplify_ordering.proofs.WalkLaws.{visitable_apart, walking_none, walking_ends, place_visitable, walking_stops, walking_more, at_place, noted_fits, step_small}
+use Rattle.simplify_ordering.proofs.WalkLaws.{walking_none, walking_ends, walking_stops, walking_more, at_place, visitable_here, step_small, noted_fits}
 use Rattle.simplify_ordering.proofs.walks.walk.Goals as goal
 
 pub loop-n-init : goal.loop-n-init
@@ -16,20 +16,12 @@ loop-n-init c =
       counted = omega (arith, ap (λ (x : Removed). x.count) c.new-back.ensures.removed);
     }
 
--- the step at this place is one of the plan's
 pub simplify_ir_node_orders-requires-clause-visitable : goal.simplify_ir_node_orders-requires-clause-visitable
 simplify_ir_node_orders-requires-clause-visitable c =
-    let before = run_of c.args.run.now c.args.ends.now in
-    let after = run_of c.loop-n.run c.args.ends.now in
-    let g = at_place c.args.list.now c.args.removed before after c.loop-n.back c.loop-n.n-index c.loop-n-test.true c.loop-n.invariant.walking in
-    visitable_apart _ _ _ refl refl refl refl (place_visitable c.args.list.now c.args.removed before after c.loop-n.back _ _ g)
+    visitable_here _ _ _ c.loop-n.run c.args.ends.now _ _ c.loop-n-test.true c.loop-n.invariant.walking
 
 pub note-requires-clause-step : goal.note-requires-clause-step
-note-requires-clause-step c =
-    let before = run_of c.args.run.now c.args.ends.now in
-    let after = run_of c.loop-n.run c.args.ends.now in
-    let g = at_place c.args.list.now c.args.removed before after c.loop-n.back c.loop-n.n-index c.loop-n-test.true c.loop-n.invariant.walking in
-    step_small c.loop-n.run c.args.ends.now _ _ _ (place_visitable c.args.list.now c.args.removed before after c.loop-n.back _ _ g)
+note-requires-clause-step c = step_small _ _ _ c.loop-n.run c.args.ends.now _ _ c.loop-n-test.true c.loop-n.invariant.walking
 
 pub returns-in_err-visited : goal.returns-in_err-visited
 returns-in_err-visited c =
@@ -50,7 +42,7 @@ loop-n-preserved c =
     let after = run_of c.loop-n.run c.args.ends.now in
     let g = at_place c.args.list.now c.args.removed before after c.loop-n.back c.loop-n.n-index c.loop-n-test.true c.loop-n.invariant.walking in
     let k = c.in_ok-visited.ensures in
-    let small = step_small c.loop-n.run c.args.ends.now _ _ _ (place_visitable c.args.list.now c.args.removed before after c.loop-n.back _ _ g) in
+    let small = step_small _ _ _ c.loop-n.run c.args.ends.now _ _ c.loop-n-test.true c.loop-n.invariant.walking in
     let fits = noted_fits _ c.in_ok-visited.visited c.loop-n.back c.note.new.self c.args.removed c.loop-n.n-index c.note.ensures c.loop-n.invariant.stored c.loop-n.invariant.counted in
     record {
       same_size = (k.same_size.0 ∙ c.loop-n.invariant.same_size.0, k.same_size.1 ∙ c.loop-n.invariant.same_size.1);

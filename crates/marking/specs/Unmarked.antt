@@ -1,4 +1,4 @@
--- The G lines that the code leaves in: those whose consumer has no mark.
+-- The G lines of edges whose consumer has no mark, as a removed sort has one: these the code leaves in.
 use Rattle.std.specs.Prelude.{ℕ, Bool, false, not, List, get_or}
 use Rattle.plan.specs.Lists.{concat_map, select}
 use Rattle.plan.specs.Graph.{Edge}
