@@ -58,27 +58,12 @@ try_mark() {
     same "mark $1 $2"
 }
 
-# The right paper to the finished sheet on standard input, as docs/GUIDE.md says to find which sorts went: those that no Sink reaches
-# through inputs, which are steps before it.
-right_paper() {
-    awk -F, '
-        $1 == "P" { step[steps++] = $0; print }
-        $1 == "G" && ! marked++ {
-            for (i = steps - 1; i >= 0; i--) {
-                n = split(step[i], number, ",")
-                if (number[2] == 2) there[i] = 1
-                if (there[i]) for (k = 9; k < 9 + number[6]; k++) there[number[k]] = 1
-            }
-        }
-        $1 == "G" && there[$2]'
-}
-
-# A sheet, then its right paper, the P and G lines of the finished sheet, the right paper altered, its edges alone, and the sheet itself as
-# a paper.
+# A sheet, then its right paper, made as docs/GUIDE.md says how it is seen which sorts went; the P and G lines of the finished sheet, the
+# right paper altered, its edges alone, and the sheet itself as a paper.
 try_sheet() {
     try_input finish "$1"
     finished="$ours"
-    right_paper < "$work/ours" > "$work/right"
+    awk -F, -f "$root/scripts/reached.awk" < "$work/ours" > "$work/right"
     grep '^[PG]' "$work/ours" > "$work/all" || true
     sed 's/0$/1/' "$work/right" > "$work/altered"
     grep '^G' "$work/right" > "$work/edges" || true
