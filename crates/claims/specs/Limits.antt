@@ -28,7 +28,7 @@ pub record VisitLimits (n : ℕ) (r : Run) : Type 0 where
   pub earlier : ChildrenEarlier (looked_in n r).end.expr_arena
   pub looks : (looked_in n r).end.tally.looks < 2 ^ 58
 
--- the numbers of a G line have two digits at most, and one
+-- an edge into one of 32 steps, by one of its eight slots: on its G line the consumer has one digit or two, and the slot one
 pub record ShortEdge (d : Edge) : Type 0 where
   pub consumer : d.consumer < 32
   pub slot : d.slot < 8

@@ -24,7 +24,7 @@ use Rattle.claims.proofs.Demand1.{demand_1, number_range}
 use Rattle.claims.proofs.EdgePlaces.{some_consumer_stays, edge_stays}
 use Rattle.claims.proofs.Ends.{accepted_by}
 use Rattle.marking.specs.declared.answer.Mark.{Mark}
-use Rattle.marking.specs.Marking.{examined, examined_block, right_paper, HasLine, verdict, mark_of, marked, marked_run, mark_answer, Tellable, before_G, from_G, Examined, MarkingKept}
+use Rattle.marking.specs.Marking.{examined, examined_block, right_paper, HasLine, verdict, mark_of, marked, marked_run, mark_answer, Tellable, before_G, from_G, OfFinished, MarkingKept}
 use Rattle.marking.proofs.Comparison.{same_if_equal, not_same}
 use Rattle.marking.proofs.ExaminedEdges.{short_edges, is_examined, all_examined}
 use Rattle.marking.proofs.LinesInPaper.{consumer_kept, has_its_line}
@@ -122,8 +122,8 @@ module _ (s output : List ℕ) (w : Run) (e : marked_run s output ≡ done w) wh
     unfolding concat_map
     empty p = edges_alone [] p
 
-    examined_so : Examined s paper output w
-    examined_so =
+    of_finished : OfFinished s paper output w
+    of_finished =
         record {
           right = is_right;
           wrong = is_wrong;
@@ -194,7 +194,7 @@ module _ (s output : List ℕ) where
       λ n e. run_listed n (run_refused paper (marked_run s output) n e) in
       let tellable = few_tellable (marked s paper output).answer listed in
       record {
-        examined = λ w e. examined_so s output w e paper;
+        of_finished = λ w e. of_finished s output w e paper;
         one_right = λ other p q. one_right paper other (marked_run s output) p q;
         numbers = listed;
         tellable = tellable;

@@ -94,14 +94,14 @@ pub record HasLine (d : Edge) (paper : List ℕ) : Type 0 where
 -- Laws, of every sheet s, paper and output -----------------------------------------------------------------------------------------
 
 -- on a sheet that is finished
-pub record Examined (s paper output : List ℕ) (whole : Run) : Type 0 where
+pub record OfFinished (s paper output : List ℕ) (whole : Run) : Type 0 where
   pub right : paper ≡ right_paper whole → (marked s paper output).answer ≡ done Mark.Right
   pub wrong : ¬ (paper ≡ right_paper whole) → (marked s paper output).answer ≡ done Mark.Wrong
   -- right exactly if both blocks are the sheet's: neither makes up for the other
   pub both_right : before_G paper ≡ steps_block whole → from_G paper ≡ examined_block whole → (marked s paper output).answer ≡ done Mark.Right
   pub other_steps : ¬ (before_G paper ≡ steps_block whole) → (marked s paper output).answer ≡ done Mark.Wrong
   pub other_edges : ¬ (from_G paper ≡ examined_block whole) → (marked s paper output).answer ≡ done Mark.Wrong
-  -- a paper that has the G line of an edge into a removed sort is wrong, whatever slot and order stand on it
+  -- a paper that has the G line of an edge into a removed sort is wrong, whichever of the slots and of the orders stand on it
   pub removed_edge : (d : Edge) → ShortEdge d → Memᴰ d.consumer whole.removed → (before behind : List ℕ) → paper ≡ before ++ edge_line d ++ behind
       → (marked s paper output).answer ≡ done Mark.Wrong
   -- a right paper has the line of every other edge of the plan as it was sent: of the edge that leaves a removed sort too
@@ -115,7 +115,7 @@ pub record Examined (s paper output : List ℕ) (whole : Run) : Type 0 where
   pub empty_wrong : paper ≡ [] → (marked s paper output).answer ≡ done Mark.Wrong
 
 pub record MarkingKept (s paper output : List ℕ) : Type 0 where
-  pub examined : (whole : Run) → marked_run s output ≡ done whole → Examined s paper output whole
+  pub of_finished : (whole : Run) → marked_run s output ≡ done whole → OfFinished s paper output whole
   -- no two papers are right
   pub one_right : (other : List ℕ) → (marked s paper output).answer ≡ done Mark.Right → (marked s other output).answer ≡ done Mark.Right → paper ≡ other
   -- a refusal has one of the call's numbers
