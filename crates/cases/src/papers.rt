@@ -14,7 +14,7 @@ fn written(out: &[u8]) -> usize {
 fn call_agrees(sheet: &[u8], paper: &[u8], count: usize, line: &[u8], out: &mut [u8]) -> bool {
     let answer = marking::mark(sheet, paper, out);
     let mut printed = [0; 6];
-    let n = put_mark(&mut printed, answer);
+    let n = put_mark(&mut printed, answer.map_err(u8::from));
     written(out) == count && &printed[..n] == line
 }
 

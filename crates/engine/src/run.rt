@@ -40,7 +40,8 @@ fn write_run(run: &mut StoredRun, ends: &[u8; 544], removed: usize, out: &mut [u
     )
 }
 
-// The graph of a plan, the walks over it, and what they leave. A refusal comes before anything is written.
+// The graph of a plan, the walks over it, and what they leave. A refusal comes before anything is written. It is handed on by an arm of its own
+// and no `?`, so that the edit which hands on another is that value alone.
 pub fn finish_run(run: &mut StoredRun, out: &mut [u8]) -> Result<Report, Refusal>
     requires in_bounds { 16384 ≤ length out.old }
     requires formed { WellFormed (sheet_of run.old) }
@@ -50,7 +51,11 @@ pub fn finish_run(run: &mut StoredRun, out: &mut [u8]) -> Result<Report, Refusal
     let mut list = Places::new();
     let mut ends: [u8; 544] = [0; 544];
     build_ir_traversal_graph(&run.steps, &mut list, &mut ends, &mut run.edges);
-    let removed = simplify_and_fetch_orderings(run, &ends, list.as_slice())?;
-    let finished = write_run(run, &ends, removed.count, out);
-    Ok(Report { finished, removed })
+    match simplify_and_fetch_orderings(run, &ends, list.as_slice()) {
+        Ok(removed) => {
+            let finished = write_run(run, &ends, removed.count, out);
+            Ok(Report { finished, removed })
+        }
+        Err(refusal) => Err(refusal),
+    }
 }

@@ -26,6 +26,8 @@ use Rattle.expr.specs.Projected.{no_entries, Started, ListAsks}
 use Rattle.storage.specs.Start.{OwnLines, NoneOff}
 use Rattle.expr.specs.Read.{ReadExprs}
 use Rattle.expr.proofs.Starts.{arena_at_start}
+use Rattle.expr.proofs.Starts as starts
+use Rattle.expr.proofs.States.{Holds}
 
 -- The stored records -------------------------------------------------------------------------------------------------------------
 
@@ -61,10 +63,17 @@ module _ (recs : List ℕ) (n : ℕ) (k : ReadExprs recs n) (line : List ℕ) (o
   arena : (tally : Tally) → (eos_of tally recs n start).expr_arena ≡ k.sheet.exprs
   arena tally = rw (started.is tally recs n line off) (arena_at_start recs n k.few line off own on ∙ k.same)
 
-  -- of any records, at most eight
-  pub asks_at_start : (list : Entries) (allow : Bool) → list.count ≤ 8 → length list.nodes ≡ 8 → Falls n (list_of list)
+  -- what an arena of them has, whose bytes have room for them
+  pub holds_at_start : n * 16 ≤ length recs → Holds recs n start
+  holds_at_start room =
+      record {
+        based = based_of_sheet recs n k.few room k.each k.sheet k.well_formed k.same;
+        formed = starts.formed_at_start recs n k.few line off own on s;
+      }
+
+  list_asks : (list : Entries) (allow : Bool) → list.count ≤ 8 → length list.nodes ≡ 8 → Falls n (list_of list)
       → ListAsks recs n start list allow
-  asks_at_start list allow short eight falls =
+  list_asks list allow short eight falls =
       let none : Tally = record { visits = 0; looks = 0 } in
       let there : (q : ℕ) → Memᴰ q (list_of list) → q < length k.sheet.exprs =
       λ q m. let (i, h, j) = place_of (list_of list) 0 q m in rw size (subst (λ c. c < n) j (falls.child i h)) in
@@ -78,3 +87,8 @@ module _ (recs : List ℕ) (n : ℕ) (k : ReadExprs recs n) (line : List ℕ) (o
             list_fits k.sheet k.well_formed (list_of list) allow (eos_of none recs n start) (arena none)
             (rw (started.is none recs n line off) (omega arith)) (rw size k.few) (simp length-take (omega (arith, short, eight))) there;
       }
+
+  -- of any records, at most eight: what the list asks, and what the arena that it is looked at in has
+  pub asks_at_start : (list : Entries) (allow : Bool) → list.count ≤ 8 → length list.nodes ≡ 8 → Falls n (list_of list)
+      → ListAsks recs n start list allow × (n * 16 ≤ length recs → Holds recs n start)
+  asks_at_start list allow short eight falls = (list_asks list allow short eight falls, holds_at_start)

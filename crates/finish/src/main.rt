@@ -18,7 +18,7 @@ fn put_answer(rt: &(impl Print + Eprint), answer: Result<Finished, Refusal>, out
         Ok(finished) => write_out(rt, &out[..finished.length]),
         Err(refusal) => {
             let mut line = [0; 6];
-            let n = put_refusal(&mut line, refusal);
+            let n = put_refusal(&mut line, u8::from(refusal));
             write_out(rt, &line[..n])
         }
     }

@@ -144,7 +144,7 @@ fn answer_is(sheet: &[u8], block: &[u8]) -> bool {
         Ok(finished) => &out[..finished.length] == block,
         Err(refusal) => {
             let mut line = [0; 6];
-            let n = put_refusal(&mut line, refusal);
+            let n = put_refusal(&mut line, u8::from(refusal));
             &line[..n] == block
         }
     }

@@ -16,7 +16,8 @@ fn update_cache_node(steps: &mut Steps, first: &[u8], m: usize)
     ensures updated { steps_in steps.new ≡ update_cache_node first.now (steps_in steps.old) m }
     ensures count { steps.new.count ≡ steps.old.count }
 {
-    if is_kind(&steps.bytes, m, IR::Cache) {
+    let cached = is_kind(&steps.bytes, m, IR::Cache);
+    if cached {
         let line = usize::from(first[m]);
         let input = steps.first_input(line);
         steps.store_input(m, 0, input);

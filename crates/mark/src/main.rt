@@ -1,6 +1,8 @@
 // Marks a paper against a sheet, two files named as arguments: `right`, `wrong`, or the refusal's number, on standard output.
 #![tactic(auto)]
 
+ghost use Rattle.std.specs.Prelude.{◌≤◌, length, IfSome};
+
 use marking::line::put_mark;
 use std::env::Env;
 use std::fs::Files;
@@ -11,7 +13,9 @@ fn read_argument<'a, R: Env + Files + Eprint>(
     rt: &R,
     i: usize,
     buf: &'a mut [u8],
-) -> Option<&'a [u8]> {
+) -> Option<&'a [u8]>
+    ensures { IfSome result (λ bytes. length bytes.now ≤ length buf.old) }
+{
     let mut path = [0; 4096];
     read_path(rt, argument(rt, i, &mut path), buf)
 }
@@ -22,7 +26,7 @@ fn print_mark(rt: &(impl Print + Eprint), sheet: &[u8], paper: &[u8]) -> bool {
     let mut out = [0; 16384];
     let answer = marking::mark(sheet, paper, &mut out);
     let mut line = [0; 6];
-    let n = put_mark(&mut line, answer);
+    let n = put_mark(&mut line, answer.map_err(u8::from));
     write_out(rt, &line[..n])
 }
 

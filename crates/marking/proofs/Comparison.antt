@@ -1,10 +1,11 @@
 -- A text held against another that begins with a known front, as the code does it: the front, then what stands behind it.
 use mathlib.Core.Path.{◌≡◌, refl, sym, ap, ◌∙◌, subst}
-use Prim.Native.Nat.{ℕ}
-use mathlib.Core.Bool.{Bool, true, false}
+use Prim.Native.Nat.{ℕ, ◌<◌}
+use native.Mathlib.Omega.{arith}
+use mathlib.Core.Bool.{Bool, true, false, ◌&&◌}
 use mathlib.Core.List.{List, [], ◌∷◌, ◌++◌}
 use lib.Dec.{T, eqb, eqb_refl}
-use lib.ListN.{length, take, drop, take-append-drop}
+use lib.ListN.{length, take, drop, length-append, take-append-drop}
 use lib.Seq.{take_at}
 use lib.Pointwise.{pointwise, bytes_decides}
 use Rattle.plan.specs.Lists.{same}
@@ -45,3 +46,12 @@ module _ (text front : List ℕ) where
       (λ e.
       let same_front : take (length front) text ≡ front = ap (take (length front)) e ∙ take_at front y (length front) refl in
       subst T (sym ((bytes_decides (take (length front) text) front).1 same_front) ∙ f) tt)
+
+  pub too_short : length text < length front → (y : List ℕ) → same text (front ++ y) ≡ false
+  too_short h y = not_same text (front ++ y) (λ e. omega (arith, h, ap length e, length-append front y))
+
+  -- so the tests of both parts decide: a of the front, b of what stands behind it
+  pub both_decide : {start rest : List ℕ} (a b : Bool) → start ≡ take (length front) text → a ≡ pointwise eqb start front
+      → rest ≡ drop (length front) text → (y : List ℕ) → b ≡ same rest y → (a && b) ≡ same text (front ++ y)
+  both_decide {rest = rest} true b is p behind y q = front_decides rest behind (sym (rw is at p)) y b q
+  both_decide false b is p behind y q = sym (front_differs (sym (rw is at p)) y)

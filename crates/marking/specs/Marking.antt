@@ -1,6 +1,6 @@
 -- Marking: a candidate's paper against the P lines of the finished sheet and those of its G lines that are examined, and every byte of
 -- the output that is lent.
-use Rattle.std.specs.Prelude.{◌≡◌, ℕ, ◌≤◌, Bool, true, false, not, eqb, if◌then◌else◌}
+use Rattle.std.specs.Prelude.{◌≡◌, ℕ, ◌≤◌, Bool, true, false, not, eqb, if◌then◌else◌, Result, Ok, Err}
 use mathlib.Core.List.{List, [], ◌∷◌, ◌++◌, Memᴰ}
 use Rattle.plan.specs.Lists.{same, among, concat_map, digit, select}
 use Rattle.plan.specs.Sheet.{Sheet, Outcome, refused, done, refuse◌when◌else◌}
@@ -61,6 +61,11 @@ unfoldable pub mark_line : Outcome Mark → List ℕ
 mark_line (done Mark.Right) = 114 ∷ 105 ∷ 103 ∷ 104 ∷ 116 ∷ 10 ∷ []
 mark_line (done Mark.Wrong) = 119 ∷ 114 ∷ 111 ∷ 110 ∷ 103 ∷ 10 ∷ []
 mark_line (refused n) = refusal_line n
+
+-- an answer of the code whose refusal is told by its number
+abbrev pub outcome_by_number : Result Mark ℕ → Outcome Mark
+outcome_by_number (Ok m) = done m
+outcome_by_number (Err n) = refused n
 
 -- the number that C is told: 0 for right, 255 for wrong, else the refusal's
 unfoldable pub mark_answer : Outcome Mark → ℕ

@@ -18,15 +18,20 @@ pub mod answer; // answer.rt: what marking answers
 pub mod examined; // examined.rt: the G lines that are examined
 pub mod line; // line.rt: the line that is printed for it
 
-// Is the paper the P lines, then the G lines but for those whose consumer was removed, and nothing else?
+// Is the paper the P lines, then the G lines but for those whose consumer was removed, and nothing else? Both blocks are always compared.
 fn compare(paper: &[u8], steps: &[u8], edges: &[u8], removed: &Removed) -> Mark
     requires { (ds : List Edge) × LinesOf ds edges.now }
     ensures { (ds : List Edge) → LinesOf ds edges.now → result ≡ verdict (same paper.now (steps.now ++ unmarked_lines removed.now ds)) }
 {
-    match paper.strip_prefix(steps) {
-        Some(rest) if equals_examined(rest, edges, removed) => Mark::Right,
-        _ => Mark::Wrong,
+    let Some((front, rest)) = paper.split_at_checked(steps.len()) else {
+        return Mark::Wrong;
+    };
+    let steps_right = front == steps;
+    let edges_right = equals_examined(rest, edges, removed);
+    if steps_right & edges_right {
+        return Mark::Right;
     }
+    Mark::Wrong
 }
 
 // The definition decides the answer and every byte of the output: the finished sheet, unless the sheet is refused.

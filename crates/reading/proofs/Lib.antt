@@ -10,5 +10,5 @@ pub mod Members
 pub mod Marking
 pub mod Plans
 pub mod Accepted
-mod TableKinds
-mod Rows
+pub mod TableKinds
+pub mod Rows

@@ -1,14 +1,17 @@
--- A kind that was read by its number: what its line may have, by that number.
+-- A kind that was read by its number: what its line may have, by that number, and which kind it is.
 use Rattle.std.specs.Prelude.{if◌then◌else◌, Ok, Err}
-use mathlib.Core.Path.{◌≡◌, refl}
+use mathlib.Core.Path.{◌≡◌, refl, sym, ap, ◌∙◌}
 use mathlib.Core.Bool.{Bool, true, false, ◌&&◌}
-use Prim.Native.Nat.{ℕ, ◌+◌, ◌<◌}
+use Prim.Native.Nat.{ℕ, ◌+◌, ◌<◌, ◌≤◌}
+use native.Mathlib.Omega.{arith}
+use native.Mathlib.Decide.{dec_le}
 use lib.Dec.{eqb, ltb, leb}
-use borrow.Author.Tests.{ltb-true}
+use lib.ListN.{get_or-eq_default}
+use borrow.Author.Tests.{ltb-true, ne_eqb}
 use Rattle.plan.specs.declared.refusal.Refusal.{Refusal}
 use Rattle.plan.specs.declared.aexpr.AExpr.{AExpr}
 use Rattle.plan.specs.declared.ir.IR.{IR}
-use Rattle.plan.specs.Kinds.{in_table, aexpr, aexpr_number, ir, ir_number}
+use Rattle.plan.specs.Kinds.{in_table, aexprs, aexpr, aexpr_number, irs, ir, ir_number}
 use Rattle.plan.proofs.KindNumbers.{aexpr_there, ir_there}
 use Rattle.reading.specs.Tables.{expr_kind_fits, expr_numbers_fit, step_kind_fits, step_numbers_fit}
 
@@ -43,3 +46,18 @@ step_read k a b c n1 n2 n3 n x h = let r = read ir_number 19 ir ir_there k x h i
 pub step_unread : (k a b c n1 n2 n3 n : ℕ) (e : Refusal) → in_table 19 ir k ≡ Err e → step_numbers_fit k a b c n1 n2 n3 n ≡ false
 unfolding step_numbers_fit
 step_unread k a b c n1 n2 n3 n e h = rw (unread ir_number 19 ir ir_there k e h)
+
+-- a kind by its number, but the first, which stands for what is past the table too
+pub step_kind_is : (k n : ℕ) → 0 < n → n < 19 → eqb (ir_number (ir k)) n ≡ eqb k n
+step_kind_is k n h l = by (dec_le 19 k)
+  where
+    by : Dec (19 ≤ k) → eqb (ir_number (ir k)) n ≡ eqb k n
+    by (yes m) = rw (ap ir_number (get_or-eq_default irs IR.Scan m)) (ne_eqb 0 n (λ e. omega arith) ∙ sym (ne_eqb k n (λ e. omega arith)))
+    by (no m) = ap (λ j. eqb j n) (ir_there k (omega arith))
+
+pub expr_kind_is : (k n : ℕ) → 0 < n → n < 25 → eqb (aexpr_number (aexpr k)) n ≡ eqb k n
+expr_kind_is k n h l = by (dec_le 25 k)
+  where
+    by : Dec (25 ≤ k) → eqb (aexpr_number (aexpr k)) n ≡ eqb k n
+    by (yes m) = rw (ap aexpr_number (get_or-eq_default aexprs AExpr.Column m)) (ne_eqb 0 n (λ e. omega arith) ∙ sym (ne_eqb k n (λ e. omega arith)))
+    by (no m) = ap (λ j. eqb j n) (aexpr_there k (omega arith))

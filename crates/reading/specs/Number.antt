@@ -35,6 +35,12 @@ digit_at [] i = Byte.End
 digit_at (x ∷ xs) zero = digit_of x
 digit_at (x ∷ xs) (suc i) = digit_at xs i
 
+-- a digit is below 10
+abbrev pub Small : Byte → Type 0
+Small (Byte.Digit d) = d < 10
+Small Byte.End = Unit
+Small Byte.Other = Unit
+
 -- a and b are the first two digits of the bytes, and the number does not begin with 0
 pub record TwoDigits (s : List ℕ) (a b : ℕ) : Type 0 where
   pub first : Byte.Digit a ≡ digit_at s 0

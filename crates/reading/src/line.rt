@@ -7,7 +7,7 @@ use plan::refusal::Refusal;
 
 // All are counted, the first 31 kept. No line within the tables has more. No ArrayVec: its length would be no more than what it keeps, and a
 // line is stored with all 32 bytes.
-#[derive(Drop)]
+#[derive(Clone, Copy)]
 pub struct Numbers {
     pub kept: [u8; 32],
     pub count: usize,

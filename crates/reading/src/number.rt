@@ -1,7 +1,7 @@
 // A number of a line: base ten, 0 to 255, without leading zeros. It is read by hand: `parse` wants a `str` whose end is known, and takes
 // a sign and leading zeros; a sheet is bytes, its numbers end at a comma or byte 10, and no second pass looks for these.
 ghost use Rattle.std.specs.Prelude.{◌≡◌, ◌≤◌};
-ghost use Rattle.reading.specs.Number.{digit_of, digit_at, number_at, TwoDigits};
+ghost use Rattle.reading.specs.Number.{digit_of, digit_at, number_at, Small, TwoDigits};
 
 use plan::refusal::Refusal;
 
@@ -24,7 +24,8 @@ pub enum Byte {
 // Digits are told first: one match would ask for the comma and byte 10 before them, and by it a call took 674 ns for 630 on sheets of
 // `gen noise`, and 7.63 µs for 7.34 on those of `gen valid`.
 pub fn digit_of(b: u8) -> Byte
-    ensures { result ≡ digit_of b }
+    ensures value { result ≡ digit_of b }
+    ensures small { Small result }
 {
     if b.is_ascii_digit() {
         return Byte::Digit(b - b'0');
@@ -37,7 +38,8 @@ pub fn digit_of(b: u8) -> Byte
 
 // The end of the bytes ends a number too.
 pub fn digit_at(s: &[u8], i: usize) -> Byte
-    ensures { result ≡ digit_at s.now i }
+    ensures value { result ≡ digit_at s.now i }
+    ensures small { Small result }
 {
     match s.get(i) {
         Some(b) => digit_of(*b),

@@ -149,6 +149,9 @@ module _ (s : Step) (es : List Expr) where
   unfolding with_implodes
   ungrouped h = rw h
 
+pub same_step : (ps : List Step) (i : ℕ) → ps ≡ set ps i (with_aggs (step_at ps i).aggs (step_at ps i))
+same_step ps i = sym (set-get_or ps i no_step)
+
 -- what comes of a step of the kind, and of any other
 module _ (i : ℕ) (s s' : Steps) (a a' : Arena) where
   abbrev before : Step
@@ -167,7 +170,7 @@ module _ (i : ℕ) (s s' : Steps) (a a' : Arena) where
   when_not h arena steps =
       let g = ungrouped before (arena_in a) h in record {
         arena = rw (g, arena);
-        steps = rw (g, steps) (sym (set-get_or (steps_in s) i no_step));
+        steps = rw (g, steps) (same_step (steps_in s) i);
         count = rw steps;
       }
 

@@ -1,14 +1,19 @@
 -- The walks, place by place: what holds when some places are visited.
 use mathlib.Core.Path.{◌≡◌, refl, sym, ap, ◌∙◌, subst}
+use mathlib.Core.Logic.{◌≢◌}
+use mathlib.Core.Bool.{Bool, true, false}
+use lib.Dec.{eqb}
 use Prim.Native.Nat.{ℕ, suc, ◌+◌, ◌≤◌, ◌<◌}
 use native.Mathlib.Omega.{arith}
 use mathlib.Core.List.{List, [], ◌∷◌, ◌++◌, Memᴰ}
-use Rattle.std.specs.Prelude.{Ok, Err}
+use Rattle.std.specs.Prelude.{Ok, Err, if◌then◌else◌}
 use lib.ListN.{length, get_or, drop, drop_of_length-le}
 use lib.Seq.{drop-cons}
 use Rattle.plan.specs.declared.refusal.Refusal.{Refusal}
-use Rattle.plan.specs.Sheet.{Outcome, done, ◌then◌}
-use Rattle.plan.specs.Visit.{Run, goes, looked_in, simplify_ir_node_orders}
+use Rattle.plan.specs.Sheet.{Outcome, refused, done, ◌then◌}
+use Rattle.plan.specs.Visit.{Run, goes, settle, unlink_node, looked_in, simplify_ir_node_orders}
+use Rattle.plan.proofs.Settling.{refusal_in}
+use Rattle.plan.proofs.Settling as Settling
 use Rattle.plan.specs.Walks.{walk, trace, then_all, trace_by, walk_by}
 use Rattle.claims.specs.Visitable.{Visitable, AllVisitable}
 use Rattle.simplify_ordering.specs.declared.back.Back.{Back}
@@ -21,6 +26,34 @@ use Rattle.simplify_ordering.proofs.VisitLaws.{here_is}
 use Rattle.storage.specs.Removed.{RemovedAre}
 use Rattle.storage.specs.declared.removed.Removed.{Removed}
 use Rattle.storage.proofs.RemovedLaws.{one_more}
+
+-- A refusal's number is not 0 ---------------------------------------------------------------------------------------------------------
+
+abbrev refused? : Outcome Run → ℕ
+refused? (refused k) = 1
+refused? (done r) = 0
+
+abbrev number_of : Outcome Run → ℕ
+number_of (refused k) = k
+number_of (done r) = 0
+
+not_refused : {r : Run} {k : ℕ} → done r ≡ refused k → ⊥
+not_refused e = let z : ◌≡◌ {A = ℕ} 0 1 = ap refused? e in omega (arith, z)
+
+pub refused_number : (n : ℕ) (r : Run) (k : ℕ) → simplify_ir_node_orders n r ≡ refused k → k ≢ 0
+unfolding simplify_ir_node_orders settle
+refused_number n r k e zero = by (goes n r) (eqb (refusal_in n r) 0) refl e
+  where
+    by : (a b : Bool) → eqb (refusal_in n r) 0 ≡ b
+        → (if a then done (unlink_node n r) else if b then done (Settling.settled n r) else refused (refusal_in n r)) ≡ refused k
+        → ⊥
+    by true b i e = not_refused e
+    by false true i e = not_refused e
+    by false false i e =
+        let z : refusal_in n r ≡ 0 = ap number_of e ∙ zero in
+        let clash : true ≡ false = sym (ap (λ (m : ℕ). eqb m 0) z) ∙ i in
+        let y : ◌≡◌ {A = ℕ} 1 0 = ap (λ (b : Bool). if b then 1 else 0) clash in
+        omega (arith, y)
 
 -- Along the places ---------------------------------------------------------------------------------------------------------------------
 

@@ -85,6 +85,25 @@ stopped_by sh (done half) = walk_stopped half.back half
 unfoldable pub fetch_stopped : Sheet → Run
 fetch_stopped sh = stopped_by sh (down sh)
 
+-- The downward walk against the definition's. It came to its end: `gone` are the sorts that it removed, and b has the places to go back
+-- along. `half` gives the run that it leaves from the two lists that the code does not hold;
+pub record DownEnds (sh : Sheet) (half : List ℕ → List ℕ → Run) (b : Back) : Type 0 where
+  pub gone : List ℕ
+  pub removed : RemovedAre gone b.removed
+  pub few : b.removed.count ≤ 288
+  pub is : down sh ≡ done (half (places b) gone)
+
+-- or it was refused: `pushed` are the places that would have been gone back along
+pub record DownStops (sh : Sheet) (half : List ℕ → List ℕ → Run) (e : Refusal) : Type 0 where
+  pub pushed : List ℕ
+  pub gone : List ℕ
+  pub is : down sh ≡ refused (refusal_number e)
+  pub stop : walk_stopped (graph sh.steps).0 (begin sh) ≡ half pushed gone
+
+abbrev pub DownGives : Sheet → (List ℕ → List ℕ → Run) → Result Back Refusal → Type 0
+DownGives sh half (Ok b) = DownEnds sh half b
+DownGives sh half (Err e) = DownStops sh half e
+
 -- the code's answer against the definition's outcome: which sorts were removed, or a refusal, and what the walks leave then.
 -- `after` gives the run that they leave from the two lists that the code does not hold
 abbrev pub FetchGives : Sheet → (List ℕ → List ℕ → Run) → Result Removed Refusal → Type 0

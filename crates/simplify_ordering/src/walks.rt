@@ -3,7 +3,7 @@ ghost use Rattle.std.specs.Prelude.{◌≡◌, ◌+◌, ◌≤◌, ◌<◌, ◌^
 ghost use Rattle.storage.specs.Edges.{InRows};
 ghost use Rattle.simplify_ordering.specs.Held.{run_of};
 ghost use Rattle.simplify_ordering.specs.Run.{SameSize};
-ghost use Rattle.simplify_ordering.specs.Walks.{Noted, WalkAsks, WalkGives, sheet_of, FetchAsks, FetchGives};
+ghost use Rattle.simplify_ordering.specs.Walks.{Noted, WalkAsks, WalkGives, sheet_of, FetchAsks, DownGives, FetchGives};
 
 use crate::back::Back;
 use crate::run::StoredRun;
@@ -34,6 +34,19 @@ fn walk(
     Ok(back)
 }
 
+// The downward walk: along the visiting list, with nothing counted yet.
+fn walk_down(run: &mut StoredRun, ends: &[u8; 544], list: &[u8]) -> Result<Back, Refusal>
+    requires { FetchAsks run.old ends.now list.now }
+    ensures down_gives { DownGives (sheet_of run.old) (run_of run.new ends.now) result }
+    ensures same_size { SameSize run.old run.new }
+{
+    run.tally = Tally {
+        visits: 0,
+        looks: 0,
+    };
+    walk(run, ends, list, Removed::new())
+}
+
 // Along the visiting list, then back over it, but for the sorts removed on the way down. Answers which sorts were removed.
 pub fn simplify_and_fetch_orderings(
     run: &mut StoredRun,
@@ -41,13 +54,10 @@ pub fn simplify_and_fetch_orderings(
     list: &[u8],
 ) -> Result<Removed, Refusal>
     requires { FetchAsks run.old ends.now list.now }
-    ensures { FetchGives (sheet_of run.old) (run_of run.new ends.now) result }
+    ensures fetched { FetchGives (sheet_of run.old) (run_of run.new ends.now) result }
+    ensures same_size { SameSize run.old run.new }
 {
-    run.tally = Tally {
-        visits: 0,
-        looks: 0,
-    };
-    let down = walk(run, ends, list, Removed::new())?;
+    let down = walk_down(run, ends, list)?;
     let at = down.at;
     let up = walk(run, ends, &down.places[at..], down.removed)?;
     Ok(up.removed)

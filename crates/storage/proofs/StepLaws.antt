@@ -9,6 +9,7 @@ use Rattle.plan.specs.Kinds.{ir}
 use Rattle.plan.specs.Sheet.{Step, no_step, step_at, step_of}
 use Rattle.storage.specs.Stored.{stored_step, stored_steps, StepsHeld}
 use Rattle.storage.proofs.Laws.{table_at}
+use Rattle.storage.specs.declared.entries.Entries.{Entries}
 use Rattle.storage.specs.Entries.{entries_at}
 use Rattle.storage.specs.Steps.{IsList}
 
@@ -21,6 +22,14 @@ list_read bytes b count room few =
       few = few;
       room = length-take-le 8 (drop b bytes) (omega (arith, room, length-drop b bytes));
     }
+
+-- how many it has, and each of them
+module _ (xs : List ℕ) (e : Entries) (l : IsList xs e) where
+  pub list_length : length xs ≡ e.count
+  list_length = ap length (sym l.is) ∙ length-take-le e.count e.nodes (omega (arith, l.few, l.room))
+
+  pub list_at : (k : ℕ) → k < e.count → get_or e.nodes k 0 ≡ get_or xs k 0
+  list_at k h = sym (get_or-take e.count e.nodes k 0 h) ∙ ap (λ (x : List ℕ). get_or x k 0) l.is
 
 -- A step's kind and option ---------------------------------------------------------------------------------------------------------
 

@@ -1,13 +1,11 @@
 // One line: its letter, its numbers behind commas, byte 10.
 ghost use Rattle.std.specs.Prelude.{◌≡◌, [], ◌∷◌, ◌+◌, ◌*◌, ◌≤◌, length, not};
 ghost use Rattle.plan.specs.Lists.{concat_map, digit};
-ghost use Rattle.plan.specs.Refusals.{refusal_number};
 ghost use Rattle.plan.specs.Text.{line};
 ghost use Rattle.writing.specs.Refusal.{refusal_line};
 ghost use Rattle.writing.specs.Wrote.{Wrote, field};
 
 use crate::fields::{put_byte, put_field, put_wide_field};
-use plan::refusal::Refusal;
 
 pub fn put_fields(out: &mut [u8], ns: &[u8]) -> usize
     requires { 4 * length ns.now ≤ length out.old }
@@ -58,10 +56,10 @@ pub fn put_tally(out: &mut [u8], removed: u64, visits: u64, looks: u64) -> usize
     d + put_byte(&mut out[d..], b'\n')
 }
 
-// What is printed for a refusal.
-pub fn put_refusal(out: &mut [u8], refusal: Refusal) -> usize
+// What is printed for a refusal. It takes any number, so no `Refusal`: a caller that has one passes `u8::from` of it.
+pub fn put_refusal(out: &mut [u8], number: u8) -> usize
     requires { 6 ≤ length out.old }
-    ensures { Wrote (refusal_line (refusal_number refusal)) out.old out.new result × (result ≤ 6) }
+    ensures { Wrote (refusal_line number) out.old out.new result × (result ≤ 6) }
 {
-    put_line(out, b'R', &[u8::from(refusal)])
+    put_line(out, b'R', &[number])
 }

@@ -1,5 +1,4 @@
 use native.Mathlib.Omega.{arith}
-use Rattle.std.proofs.lemmas.Result.{err_from_is_err_and}
 use Rattle.claims.proofs.Plans.{plan_of}
 use Rattle.storage.proofs.Laws.{length_steps}
 use Rattle.ir_graph.proofs.FirstPass.{zeros}
@@ -23,15 +22,13 @@ simplify_and_fetch_orderings-requires c =
       rows = λ m h. b.in_rows m (omega (arith, h, length_steps s.bytes s.count));
     })
 
-pub returns-in_err-removed : goal.returns-in_err-removed
-returns-in_err-removed c =
-    let p = err_from_is_err_and c.from_residual.result c.from_residual.ensures.1 in
-    rw (p.1, p.2) (record { out_after = refused_call (sheet_of c.args.run.now) c.args.out.now _ c.in_err-removed.ensures.0; reports = tt })
+pub returns-in-Err : goal.returns-in-Err
+returns-in-Err c = record { out_after = refused_call (sheet_of c.args.run.now) c.args.out.now _ c.in-Err.ensures.fetched.0; reports = tt }
 
-pub returns : goal.returns
-returns c =
-    let (back, gone, ends, are) = c.in_ok-removed.ensures in
+pub returns-in-Ok : goal.returns-in-Ok
+returns-in-Ok c =
+    let (back, gone, ends, are) = c.in-Ok.ensures.fetched in
     record {
-      out_after = finished_call (sheet_of c.args.run.now) c.args.out.now _ _ c.in_ok-removed.removed _ back gone ends are c.write_run-finished.ensures;
+      out_after = finished_call (sheet_of c.args.run.now) c.args.out.now _ _ c.in-Ok.removed _ back gone ends are c.write_run-finished.ensures;
       reports = record { whole = _; runs = ends; are = are };
     }

@@ -4,4 +4,4 @@ use Rattle.writing.proofs.lines.put_refusal.Goals as goal
 
 pub returns : goal.returns
 unfolding refusal_line
-returns c = (rw (← c.from.ensures) c.put_line.ensures.0, omega arith)
+returns c = (c.put_line.ensures.0, omega arith)
