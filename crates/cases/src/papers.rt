@@ -2,7 +2,7 @@
 // holds, and the line that is printed for the mark.
 use crate::frame::{Case, two};
 use crate::sheets::{FILLER, OUTPUT};
-use marking::line::put_mark;
+use marking::line::put_answer;
 
 // How many bytes stand before the first that is as it was.
 fn written(out: &[u8]) -> usize {
@@ -14,7 +14,7 @@ fn written(out: &[u8]) -> usize {
 fn call_agrees(sheet: &[u8], paper: &[u8], count: usize, line: &[u8], out: &mut [u8]) -> bool {
     let answer = marking::mark(sheet, paper, out);
     let mut printed = [0; 6];
-    let n = put_mark(&mut printed, answer.map_err(u8::from));
+    let n = put_answer(&mut printed, answer);
     written(out) == count && &printed[..n] == line
 }
 

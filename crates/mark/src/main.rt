@@ -3,7 +3,7 @@
 
 ghost use Rattle.std.specs.Prelude.{◌≤◌, length, IfSome};
 
-use marking::line::put_mark;
+use marking::line::put_answer;
 use std::env::Env;
 use std::fs::Files;
 use streams::{argument, has_argument, read_path, write_out};
@@ -26,7 +26,7 @@ fn print_mark(rt: &(impl Print + Eprint), sheet: &[u8], paper: &[u8]) -> bool {
     let mut out = [0; 16384];
     let answer = marking::mark(sheet, paper, &mut out);
     let mut line = [0; 6];
-    let n = put_mark(&mut line, answer.map_err(u8::from));
+    let n = put_answer(&mut line, answer);
     write_out(rt, &line[..n])
 }
 
